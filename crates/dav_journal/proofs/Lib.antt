@@ -1,3 +1,4 @@
+pub mod AdoptLemmas
 pub mod BlockLemmas
 mod ClearLemmas
 mod CutLemmas

@@ -1,6 +1,6 @@
 -- Two files, of which one counts: what they stand for, and what contracts see of a pair of
 -- journals.
-use Rattle.std.specs.Prelude.{◌≡◌, ◌⊎◌, ℕ, ◌<◌, ◌^◌, List, Option, MatchOption, length, [], ◌∷◌, ◌++◌, IsTrue}
+use Rattle.std.specs.Prelude.{◌≡◌, ◌⊎◌, ℕ, ◌<◌, ◌^◌, List, Option, Some, None, MatchOption, length, [], ◌∷◌, ◌++◌, IsTrue}
 use Rattle.std.specs.Bool.{⊤}
 use Rattle.std.specs.Int.{w64, to_be_bytes}
 use Rattle.sqlite_disk.specs.Disk.{Only}
@@ -153,3 +153,15 @@ pub record HasFirst {D : Type 0} (g : Ghosts D) (j : Journal D) (generation : Op
   pub more : 72 < length (file_of g j)
   pub first : MatchOption generation (IsNoBlock j.key (file_of g j) 72)
       (HasGeneration j.key (file_of g j))
+
+-- a journal is of this generation: its first block begins with it, or it has none, and that is 0
+abbrev pub IsOfGeneration : {D : Type 0} → Ghosts D → Journal D → ℕ → Type 0
+IsOfGeneration g j generation =
+    HasFirst g j (Some generation) ⊎ (HasFirst g j None × (generation ≡ 0))
+
+-- whatever a crash leaves of the one file and of the other, the first stands for blocks of before, or
+-- both for these contents
+abbrev pub LeavesFormer : {D : Type 0} → Ghosts D → Pair D → List (List ℕ) → List (List ℕ) → Type 0
+LeavesFormer g p former contents =
+    (c d : List ℕ) → g.may_leave (disk_of p.counts) c → g.may_leave (disk_of p.spare) d
+    → Recovers c former ⊎ PairRecovers c d contents

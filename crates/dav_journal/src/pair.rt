@@ -7,6 +7,7 @@ ghost use Rattle.dav_journal.specs.declared.error.JournalError.TheVariants.{Dama
 ghost use Rattle.dav_journal.specs.Journal.{HasRead, IsClean, IsReading, OnlyReads, blocks_end, blocks_len, disk_of, file_of};
 ghost use Rattle.dav_journal.specs.Pair.{HasFirst, HasReadPair, IsCleanPair, IsKeptPair, IsMixingPair, IsReadingPair, OnlyReadsPair, PairLeaves, PairLeavesOnly, PairRecovers, PairStandsFor, StaysPair, WereOpened, counting, generation_of, spare_of};
 
+mod adopting;
 mod keeping;
 mod opening;
 mod reading;

@@ -1,5 +1,5 @@
 -- Runs of records, and their bytes.
-use Rattle.std.specs.Prelude.{MatchOption}
+use Rattle.std.specs.Prelude.{IfSome, MatchOption}
 use Rattle.std.specs.List.{concat}
 use Rattle.std.proofs.Common.{◌≡◌, ◌≢◌, ℕ, Option, None, Some, ◌+◌, max, List, [], ◌∷◌, ◌++◌, length, refl, sym, ap, ◌∙◌, subst, arith, append-nil, append_assoc}
 use Rattle.std.proofs.lemmas.List.Elements.{All-nil, All-cons, All-head, All-tail, All-append}
@@ -105,6 +105,9 @@ module _ {S : Type 0} (step : S → RecordView → S → Type 0) where
   pub follows_added : (r : RecordView) (old new : Holding S) → IsRecord r → step old.state r new.state → new.batch ≡ old.batch ++ record_bytes r
       → new.tokens ≡ old.tokens + token_count r.request.token → new.latest ≡ max old.latest r.request.moment → RecordsFollow step old new
   follows_added r old new is x batch counted last = record { more = record_bytes r; longer = batch; plays = plays_one step r old new is x counted last }
+
+pub if_some : {A : Type 0} (P : A → Type 0) (o : Option A) (x : A) → o ≡ Some x → IfSome o P → P x
+if_some P o x is holds = subst (λ q. IfSome q P) is holds
 
 -- ---- what a journal begins with
 

@@ -24,10 +24,10 @@ plays_from step bytes a b c state tokens latest p = record {
   last = p.last ∙ ap (λ (n : ℕ). max n p.latest) (sym latest);
 }
 
-module _ {S : Type 0} (answers : S → RequestView → Response → S → Type 0) (saved : S → List ℕ) (loads : S → List ℕ → S → Type 0) (first : S) where
+module _ {S : Type 0} (answers : S → RequestView → Response → S → Type 0) (saved : S → List ℕ) (is_saveable : S → Type 0) (loads : S → List ℕ → S → Type 0) (first : S) where
   -- the run since the first day, from a beginning on
   since : (start : Option Snapshot) (blocks : List (List ℕ)) (now : Holding S) (bytes : List ℕ) (begin : Holding S) → Leads (answer_step answers) bytes first begin.state begin.tokens begin.latest
-      → IsBeginning saved first bytes begin start → PlaysRecords (answer_step answers) (concat blocks ++ now.batch) begin now → IsRunSince (answer_step answers) saved first start blocks now
+      → IsBeginning saved is_saveable first bytes begin start → PlaysRecords (answer_step answers) (concat blocks ++ now.batch) begin now → IsRunSince (answer_step answers) saved is_saveable first start blocks now
   since start blocks now bytes begin before beginning plays = record {
     bytes = bytes;
     begin = begin;
@@ -43,58 +43,58 @@ module _ {S : Type 0} (answers : S → RequestView → Response → S → Type 0
   }
 
   -- more records follow
-  after_answers : (start : Option Snapshot) (blocks : List (List ℕ)) (old new : Holding S) → IsRunSince (answer_step answers) saved first start blocks old → RecordsFollow (answer_step answers) old new
-      → IsRunSince (answer_step answers) saved first start blocks new
+  after_answers : (start : Option Snapshot) (blocks : List (List ℕ)) (old new : Holding S) → IsRunSince (answer_step answers) saved is_saveable first start blocks old → RecordsFollow (answer_step answers) old new
+      → IsRunSince (answer_step answers) saved is_saveable first start blocks new
   after_answers start blocks old new x f =
       let bytes : (concat blocks ++ old.batch) ++ f.more ≡ concat blocks ++ new.batch =
       append_assoc (concat blocks) old.batch f.more ∙ ap (λ (t : List ℕ). concat blocks ++ t) (sym f.longer) in
       since start blocks new x.bytes x.begin x.before x.beginning
       (subst (λ (t : List ℕ). PlaysRecords (answer_step answers) t x.begin new) bytes (plays_append (answer_step answers) (concat blocks ++ old.batch) f.more x.begin old new x.plays f.plays))
 
-  after_commit : (start : Option Snapshot) (blocks : List (List ℕ)) (old : Holding S) → IsRunSince (answer_step answers) saved first start blocks old
-      → IsRunSince (answer_step answers) saved first start (with_batch blocks old.batch) (committed old)
+  after_commit : (start : Option Snapshot) (blocks : List (List ℕ)) (old : Holding S) → IsRunSince (answer_step answers) saved is_saveable first start blocks old
+      → IsRunSince (answer_step answers) saved is_saveable first start (with_batch blocks old.batch) (committed old)
   after_commit start blocks old x =
       since start (with_batch blocks old.batch) (committed old) x.bytes x.begin x.before x.beginning
       (subst (λ (t : List ℕ). PlaysRecords (answer_step answers) t x.begin (committed old)) (sym (batch_joins blocks old.batch))
       (record { tokens = x.plays.tokens; latest = x.plays.latest; leads = x.plays.leads; counted = x.plays.counted; last = x.plays.last }))
 
-  after_snapshot : (start : Option Snapshot) (blocks : List (List ℕ)) (old : Holding S) → old.batch ≡ [] → IsRunSince (answer_step answers) saved first start blocks old
-      → IsRunSince (answer_step answers) saved first (Some (snapshot_of saved old)) [] old
-  after_snapshot start blocks old none x =
-      since (Some (snapshot_of saved old)) [] old (x.bytes ++ (concat blocks ++ old.batch)) old x.all refl
+  after_snapshot : (start : Option Snapshot) (blocks : List (List ℕ)) (old : Holding S) → old.batch ≡ [] → is_saveable old.state → IsRunSince (answer_step answers) saved is_saveable first start blocks old
+      → IsRunSince (answer_step answers) saved is_saveable first (Some (snapshot_of saved old)) [] old
+  after_snapshot start blocks old none can x =
+      since (Some (snapshot_of saved old)) [] old (x.bytes ++ (concat blocks ++ old.batch)) old x.all (refl, can)
       (subst (λ (t : List ℕ). PlaysRecords (answer_step answers) t old old) (sym none) (plays_none (answer_step answers) old))
 
   -- a start begins with what was held where the journal begins
-  same_beginning : LoadsWhatWasSaved answers saved loads → (start : Option Snapshot) (bytes : List ℕ) (was now : Holding S) → Leads (answer_step answers) bytes first was.state was.tokens was.latest
-      → IsBeginning saved first bytes was start → Begins loads first start now → (now.state ≡ was.state) × (now.tokens ≡ was.tokens) × (now.latest ≡ was.latest)
+  same_beginning : LoadsWhatWasSaved answers saved is_saveable loads → (start : Option Snapshot) (bytes : List ℕ) (was now : Holding S) → Leads (answer_step answers) bytes first was.state was.tokens was.latest
+      → IsBeginning saved is_saveable first bytes was start → Begins loads first start now → (now.state ≡ was.state) × (now.tokens ≡ was.tokens) × (now.latest ≡ was.latest)
   same_beginning back None bytes was now before begins is =
       let same = is ∙ sym begins.1 in (ap (λ (h : Holding S). h.state) same, ap (λ (h : Holding S). h.tokens) same, ap (λ (h : Holding S). h.latest) same)
   same_beginning back (Some s) bytes was now before begins is = (
-    back first was.state now.state before.records before.runs (subst (λ (t : Snapshot). loads first t.saved now.state) begins is.1),
-    ap (λ (h : Holding S). h.tokens) is.0 ∙ ap (λ (t : Snapshot). t.tokens) begins,
-    ap (λ (h : Holding S). h.latest) is.0 ∙ ap (λ (t : Snapshot). t.latest) begins,
+    back first was.state now.state before.records before.runs begins.1 (subst (λ (t : Snapshot). loads first t.saved now.state) begins.0 is.1),
+    ap (λ (h : Holding S). h.tokens) is.0 ∙ ap (λ (t : Snapshot). t.tokens) begins.0,
+    ap (λ (h : Holding S). h.latest) is.0 ∙ ap (λ (t : Snapshot). t.latest) begins.0,
   )
 
-  after_start : LoadsWhatWasSaved answers saved loads → (start : Option Snapshot) (blocks : List (List ℕ)) (old new : Holding S) → IsRunSince (answer_step answers) saved first start blocks old
-      → IsRunOf (answer_step answers) loads first start blocks new → IsRunSince (answer_step answers) saved first start blocks new
+  after_start : LoadsWhatWasSaved answers saved is_saveable loads → (start : Option Snapshot) (blocks : List (List ℕ)) (old new : Holding S) → IsRunSince (answer_step answers) saved is_saveable first start blocks old
+      → IsRunOf (answer_step answers) loads first start blocks new → IsRunSince (answer_step answers) saved is_saveable first start blocks new
   after_start back start blocks old new x run =
       let same = same_beginning back start x.bytes x.begin run.begin x.before x.beginning run.begins in
       since start blocks new x.bytes x.begin x.before x.beginning (plays_from (answer_step answers) (concat blocks ++ new.batch) run.begin x.begin new (sym same.0) (sym same.1) (sym same.2) run.plays)
 
-  lives_since : LoadsWhatWasSaved answers saved loads → (start : Option Snapshot) (blocks : List (List ℕ)) (now : Holding S) → Lives answers saved loads first start blocks now
-      → IsRunSince (answer_step answers) saved first start blocks now
+  lives_since : LoadsWhatWasSaved answers saved is_saveable loads → (start : Option Snapshot) (blocks : List (List ℕ)) (now : Holding S) → Lives answers saved is_saveable loads first start blocks now
+      → IsRunSince (answer_step answers) saved is_saveable first start blocks now
   lives_since back _ _ _ Lives.begins = since None [] (first_day first) [] (first_day first) (leads_none (answer_step answers) first) (refl, refl) (plays_none (answer_step answers) (first_day first))
   lives_since back start blocks new (Lives.answered {old = old} x f) = after_answers start blocks old new (lives_since back start blocks old x) f
   lives_since back _ _ _ (Lives.commits {start} {blocks} {old} x) = after_commit start blocks old (lives_since back start blocks old x)
-  lives_since back _ _ _ (Lives.saves {start} {blocks} {old} x none) = after_snapshot start blocks old none (lives_since back start blocks old x)
+  lives_since back _ _ _ (Lives.saves {start} {blocks} {old} x none can) = after_snapshot start blocks old none can (lives_since back start blocks old x)
   lives_since back _ _ _ (Lives.starts {start} {blocks} {old} {new} x none run) = after_start back start blocks old new (lives_since back start blocks old x) run
   lives_since back _ _ _ (Lives.starts_after_a_commit {start} {blocks} {old} {new} x none run) =
       after_start back start (with_batch blocks old.batch) (committed old) new (after_commit start blocks old (lives_since back start blocks old x)) run
-  lives_since back _ _ _ (Lives.starts_after_a_snapshot {start} {blocks} {old} {new} x empty none run) =
-      after_start back (Some (snapshot_of saved old)) [] old new (after_snapshot start blocks old empty (lives_since back start blocks old x)) run
+  lives_since back _ _ _ (Lives.starts_after_a_snapshot {start} {blocks} {old} {new} x empty can none run) =
+      after_start back (Some (snapshot_of saved old)) [] old new (after_snapshot start blocks old empty can (lives_since back start blocks old x)) run
 
-pub lives_are_runs : {S : Type 0} (answers : S → RequestView → Response → S → Type 0) (saved : S → List ℕ) (loads : S → List ℕ → S → Type 0) → LoadsWhatWasSaved answers saved loads → LivesAreRuns answers saved loads
-lives_are_runs answers saved loads back first start blocks now x = lives_since answers saved loads first back start blocks now x
+pub lives_are_runs : {S : Type 0} (answers : S → RequestView → Response → S → Type 0) (saved : S → List ℕ) (is_saveable : S → Type 0) (loads : S → List ℕ → S → Type 0) → LoadsWhatWasSaved answers saved is_saveable loads → LivesAreRuns answers saved is_saveable loads
+lives_are_runs answers saved is_saveable loads back first start blocks now x = lives_since answers saved is_saveable loads first back start blocks now x
 
 module _ {S : Type 0} (answers : S → RequestView → Response → S → Type 0) where
   -- records lead from one state to one state, where each does

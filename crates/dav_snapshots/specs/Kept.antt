@@ -91,14 +91,14 @@ pub record IsRunOf {S : Type 0} (step : S → RecordView → S → Type 0)
   pub begins : Begins loads first start begin
   pub plays : PlaysRecords step (concat blocks ++ now.batch) begin now
 
--- What was saved of a state, to which records lead from a first one, is loaded into that first one
--- as the same state.
+-- What was saved of a state that can be saved, and to which records lead from a first one, is
+-- loaded into that first one as the same state.
 abbrev pub LoadsWhatWasSaved : {S : Type 0} → (S → RequestView → Response → S → Type 0)
-    → (S → List ℕ) → (S → List ℕ → S → Type 0) → Type 0
-LoadsWhatWasSaved {S} answers saved loads =
+    → (S → List ℕ) → (S → Type 0) → (S → List ℕ → S → Type 0) → Type 0
+LoadsWhatWasSaved {S} answers saved is_saveable loads =
     (first state loaded : S) (records : List RecordView)
-    → RecordsRun (answer_step answers) first records state → loads first (saved state) loaded
-    → loaded ≡ state
+    → RecordsRun (answer_step answers) first records state → is_saveable state
+    → loads first (saved state) loaded → loaded ≡ state
 
 -- More records follow those of the batch, lead from the one state to the other, and are counted.
 pub record RecordsFollow {S : Type 0} (step : S → RecordView → S → Type 0) (old new : Holding S)
@@ -157,6 +157,10 @@ journal_of k = k.journal
 -- what the first block of its journal begins with
 abbrev pub preface_of : {H J : Type 0} → Kept H J → List ℕ
 preface_of k = k.preface.items
+
+-- where the blocks of its journal ended at its last snapshot
+abbrev pub base_of : {H J : Type 0} → Kept H J → ℕ
+base_of k = k.base
 
 -- its journal has no block
 abbrev pub is_new : {H J : Type 0} → Kept H J → Bool

@@ -9,61 +9,65 @@ use Rattle.dav_snapshots.specs.declared.handler.Effect.TheVariants as effect
 
 -- The snapshot that a server's journal begins with, its blocks after the first one, and what the
 -- server holds. On its first day there are none. Then it answers; it commits; with an empty batch
--- it makes a snapshot, with which the journal begins anew; or it ends, and starts again over what
--- is left: what was there, or what there was to be after a commit or a snapshot that it didn't end.
+-- and a state that can be saved it makes a snapshot, with which the journal begins anew; or it ends,
+-- and starts again over what is left: what was there, or what there was to be after a commit or a
+-- snapshot that it didn't end.
 pub data Lives {S : Type 0} (answers : S → RequestView → Response → S → Type 0)
-    (saved : S → List ℕ) (loads : S → List ℕ → S → Type 0) (first : S)
+    (saved : S → List ℕ) (is_saveable : S → Type 0) (loads : S → List ℕ → S → Type 0) (first : S)
     : Option Snapshot → List (List ℕ) → Holding S → Type 0 where
-  begins : Lives answers saved loads first None [] (first_day first)
+  begins : Lives answers saved is_saveable loads first None [] (first_day first)
   answered : {start : Option Snapshot} {blocks : List (List ℕ)} {old new : Holding S}
-      → Lives answers saved loads first start blocks old
+      → Lives answers saved is_saveable loads first start blocks old
       → RecordsFollow (answer_step answers) old new
-      → Lives answers saved loads first start blocks new
+      → Lives answers saved is_saveable loads first start blocks new
   commits : {start : Option Snapshot} {blocks : List (List ℕ)} {old : Holding S}
-      → Lives answers saved loads first start blocks old
-      → Lives answers saved loads first start (with_batch blocks old.batch) (committed old)
+      → Lives answers saved is_saveable loads first start blocks old
+      → Lives answers saved is_saveable loads first start (with_batch blocks old.batch) (committed old)
   saves : {start : Option Snapshot} {blocks : List (List ℕ)} {old : Holding S}
-      → Lives answers saved loads first start blocks old → old.batch ≡ []
-      → Lives answers saved loads first (Some (snapshot_of saved old)) [] old
+      → Lives answers saved is_saveable loads first start blocks old → old.batch ≡ []
+      → is_saveable old.state
+      → Lives answers saved is_saveable loads first (Some (snapshot_of saved old)) [] old
   starts : {start : Option Snapshot} {blocks : List (List ℕ)} {old new : Holding S}
-      → Lives answers saved loads first start blocks old → new.batch ≡ []
+      → Lives answers saved is_saveable loads first start blocks old → new.batch ≡ []
       → IsRunOf (answer_step answers) loads first start blocks new
-      → Lives answers saved loads first start blocks new
+      → Lives answers saved is_saveable loads first start blocks new
   starts_after_a_commit : {start : Option Snapshot} {blocks : List (List ℕ)} {old new : Holding S}
-      → Lives answers saved loads first start blocks old → new.batch ≡ []
+      → Lives answers saved is_saveable loads first start blocks old → new.batch ≡ []
       → IsRunOf (answer_step answers) loads first start (with_batch blocks old.batch) new
-      → Lives answers saved loads first start (with_batch blocks old.batch) new
+      → Lives answers saved is_saveable loads first start (with_batch blocks old.batch) new
   starts_after_a_snapshot : {start : Option Snapshot} {blocks : List (List ℕ)} {old new : Holding S}
-      → Lives answers saved loads first start blocks old → old.batch ≡ [] → new.batch ≡ []
+      → Lives answers saved is_saveable loads first start blocks old → old.batch ≡ []
+      → is_saveable old.state → new.batch ≡ []
       → IsRunOf (answer_step answers) loads first (Some (snapshot_of saved old)) [] new
-      → Lives answers saved loads first (Some (snapshot_of saved old)) [] new
+      → Lives answers saved is_saveable loads first (Some (snapshot_of saved old)) [] new
 
 -- A journal begins so where the records of these bytes came before it, and led to this: with no
--- snapshot where there were none, or else with the snapshot of that.
-abbrev pub IsBeginning : {S : Type 0} → (S → List ℕ) → S → List ℕ → Holding S → Option Snapshot
-    → Type 0
-IsBeginning saved first bytes begin None = (bytes ≡ []) × (begin ≡ first_day first)
-IsBeginning saved first bytes begin (Some s) = s ≡ snapshot_of saved begin
+-- snapshot where there were none, or else with the snapshot of that, which can be saved.
+abbrev pub IsBeginning : {S : Type 0} → (S → List ℕ) → (S → Type 0) → S → List ℕ → Holding S
+    → Option Snapshot → Type 0
+IsBeginning saved is_saveable first bytes begin None = (bytes ≡ []) × (begin ≡ first_day first)
+IsBeginning saved is_saveable first bytes begin (Some s) =
+    (s ≡ snapshot_of saved begin) × is_saveable begin.state
 
 -- The state of a server is that of the run of all records since its first day, and they are
 -- counted: of those before the snapshot, which has the state that they led to, of those in the
 -- blocks after it, and of those in the batch.
 pub record IsRunSince {S : Type 0} (step : S → RecordView → S → Type 0) (saved : S → List ℕ)
-    (first : S) (start : Option Snapshot) (blocks : List (List ℕ)) (now : Holding S) : Type 0 where
+    (is_saveable : S → Type 0) (first : S) (start : Option Snapshot) (blocks : List (List ℕ)) (now : Holding S) : Type 0 where
   pub bytes : List ℕ
   pub begin : Holding S
   pub before : Leads step bytes first begin.state begin.tokens begin.latest
-  pub beginning : IsBeginning saved first bytes begin start
+  pub beginning : IsBeginning saved is_saveable first bytes begin start
   pub plays : PlaysRecords step (concat blocks ++ now.batch) begin now
   pub all : Leads step (bytes ++ (concat blocks ++ now.batch)) first now.state now.tokens now.latest
 
 -- That is so at all times.
 abbrev pub LivesAreRuns : {S : Type 0} → (S → RequestView → Response → S → Type 0)
-    → (S → List ℕ) → (S → List ℕ → S → Type 0) → Type 0
-LivesAreRuns {S} answers saved loads =
+    → (S → List ℕ) → (S → Type 0) → (S → List ℕ → S → Type 0) → Type 0
+LivesAreRuns {S} answers saved is_saveable loads =
     (first : S) (start : Option Snapshot) (blocks : List (List ℕ)) (now : Holding S)
-    → Lives answers saved loads first start blocks now
-    → IsRunSince (answer_step answers) saved first start blocks now
+    → Lives answers saved is_saveable loads first start blocks now
+    → IsRunSince (answer_step answers) saved is_saveable first start blocks now
 
 -- a record leads from one state to one state
 abbrev pub IsDetermined : {S : Type 0} → (S → RecordView → S → Type 0) → Type 0

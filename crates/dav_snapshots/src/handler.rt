@@ -1,5 +1,5 @@
 //! What answers requests.
-ghost use Rattle.std.specs.Prelude.{◌≡◌, ◌++◌, ℕ, List, IfOk, OnOk};
+ghost use Rattle.std.specs.Prelude.{◌≡◌, ◌++◌, ℕ, List, IsTrue, IfOk, OnOk};
 ghost use Rattle.http_server.specs.declared.response.Response.{Response};
 ghost use Rattle.http_server.specs.Response.{IsBlank};
 ghost use Rattle.dav_snapshots.specs.Kept.{LoadsWhatWasSaved};
@@ -39,17 +39,22 @@ pub trait Handles {
     // What is saved of a state.
     ghost saved: { Self → List ℕ };
 
+    // What was saved of this state can be loaded.
+    ghost is_saveable: { Self → Type 0 };
+
     // The second state is loaded from these bytes, by a server in the first one.
     ghost loads: { Self → List ℕ → Self → Type 0 };
 
-    /// Adds what is saved of the state.
-    fn save(&self, out: &mut Vec<u8>) -> Result<(), HandleError>
-        ensures { OnOk result (out.new.items ≡ out.old.items ++ saved self.now) };
+    /// Adds what is saved of the state. False where that couldn't be loaded: what was added then is
+    /// of no use.
+    fn save(&self, out: &mut Vec<u8>) -> Result<bool, HandleError>
+        ensures { IfOk result (λ is. IsTrue is
+            → (out.new.items ≡ out.old.items ++ saved self.now) × is_saveable self.now) };
 
     /// Loads the state that these bytes were saved of, in the place of the first one. `Malformed`
     /// where they are those of none; after an error nothing may be asked.
     fn load(&mut self, bytes: &[u8]) -> Result<(), HandleError>
         ensures { OnOk result (loads self.old bytes.now self.new) };
 
-    ghost loads_what_was_saved: { LoadsWhatWasSaved answers saved loads };
+    ghost loads_what_was_saved: { LoadsWhatWasSaved answers saved is_saveable loads };
 }

@@ -5,7 +5,7 @@ use crate::error::KeptError;
 use std::alloc::Global;
 
 /// What keeps blocks of bytes, over a crash too. Its blocks are read first, in their order, until
-/// none follows; then it is first_day, and more are kept.
+/// none follows; then it begins, and more are kept.
 pub trait Keeps {
     // No wrong answer of what the blocks are on was taken for a true one.
     ghost is_clean: { Self → Type 0 };
@@ -94,5 +94,5 @@ pub trait Keeps {
             → leaves self.new blocks blocks };
 
     ghost kept_is_left: { (j : Self) (blocks others : List (List ℕ)) → kept j blocks
-        → leaves j blocks others };
+        → leaves j blocks others × leaves j others blocks };
 }

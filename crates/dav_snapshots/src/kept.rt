@@ -1,18 +1,21 @@
 //! A handler and the journal of what it answered.
-ghost use Rattle.std.specs.Prelude.{◌≡◌, ◌≢◌, ◌⊎◌, ◌+◌, ◌<◌, ◌^◌, ◌++◌, ◌∷◌, ◌↔◌, ℕ, Option, Some, None, List, length, [], true, false, IsTrue, MatchOption, IfOk, OnOk};
+ghost use Rattle.std.specs.Prelude.{◌≡◌, ◌≢◌, ◌⊎◌, ◌+◌, ◌*◌, ◌<◌, ◌^◌, ◌++◌, ◌∷◌, ◌↔◌, ℕ, Option, Some, None, List, length, [], true, false, IsTrue, MatchOption, IfSome, IfOk, OnOk};
 ghost use Rattle.std.specs.List.{concat};
 ghost use Rattle.http_server.specs.declared.response.Response.{Response};
 ghost use Rattle.http_server.specs.Response.{IsBlank};
 ghost use Rattle.dav_snapshots.specs.Records.{IsRecord, record_bytes, token_count};
-ghost use Rattle.dav_snapshots.specs.Kept.{Begins, IsAnswerOf, RecordsFollow, IsRunOf, PlaysRecords, Snapshot, StaysAsKept, StaysInJournal, after, committed, first_block, first_day, held_by, is_new, journal_of, preface_of, snapshot_bytes, snapshot_of, answer_step, with_batch, with_count, with_first, with_snapshot};
+ghost use Rattle.dav_snapshots.specs.Kept.{Begins, IsAnswerOf, RecordsFollow, IsRunOf, PlaysRecords, Snapshot, StaysAsKept, StaysInJournal, after, committed, first_block, first_day, held_by, is_new, journal_of, preface_of, snapshot_bytes, snapshot_of, answer_step, base_of, with_batch, with_count, with_first, with_snapshot};
 ghost use Rattle.dav_snapshots.specs.declared.handler.Effect.TheVariants.{Changed};
 
-use crate::error::{KeptError, refusal};
+mod saving;
+mod starting;
+
+use crate::error::KeptError;
 use crate::handler::{Effect, Handles};
 use crate::journal::Keeps;
-use crate::record::{Record, Request, number_in, put, taken};
-use bytes::Bytes;
+use crate::record::Request;
 use http_server::Response;
+pub use saving::{is_due, plain_block};
 use std::alloc::Global;
 
 /// A handler and its journal: the handler's state is that of the run of the records in the
@@ -26,6 +29,9 @@ pub struct Kept<H, J> {
     preface: Vec<u8>,
     /// Whether the journal has no block.
     is_new: bool,
+    /// Where the blocks ended when a snapshot was last made or tried; at a start, where the first one
+    /// ends.
+    base: usize,
     /// Whether the loss of its last block would be seen.
     is_marked: bool,
     /// The records since the last commit.
@@ -64,6 +70,7 @@ impl<H: Handles + Drop, J: Keeps + Drop> Kept<H, J> {
             journal,
             preface: Vec::from_slice(alloc, preface)?,
             is_new: true,
+            base: 0,
             is_marked: false,
             batch: Vec::new(alloc),
             tokens: 0,
@@ -71,152 +78,6 @@ impl<H: Handles + Drop, J: Keeps + Drop> Kept<H, J> {
         };
         kept.replay()?;
         Ok(kept)
-    }
-
-    // Plays what the journal has: the first block has to begin with the preface, and the others
-    // have records.
-    fn replay(&mut self) -> Result<(), KeptError>
-        requires is_new { is_new self.old ≡ true }
-        requires first { held_by self.old ≡ first_day (held_by self.old).state }
-        ensures run { OnOk result ((start : Option Snapshot) × (blocks : List (List ℕ))
-            × IsRunOf (answer_step H.answers) H.loads (held_by self.old).state start blocks
-            (held_by self.new)
-            × (J.is_clean (journal_of self.new) → J.has_so_far (journal_of self.old) []
-            → J.has_read (journal_of self.new)
-            (with_first (is_new self.new) (first_block (preface_of self.old) start) blocks))
-            × (is_new self.new ≡ true → (blocks ≡ []) × (start ≡ None))) }
-        ensures batch { OnOk result ((held_by self.new).batch ≡ []) }
-        ensures clean { J.is_clean (journal_of self.new) → J.is_clean (journal_of self.old) }
-        ensures preface { preface_of self.new ≡ preface_of self.old }
-    {
-        let place = self.journal.place();
-        let Some(block) = self.next_block()? else {
-            return Ok(());
-        };
-        self.start(&block, place)?;
-        self.is_new = false;
-        self.play_blocks()
-    }
-
-    // Begins with the first block, at this place: the preface, and a snapshot if it has one.
-    fn start(&mut self, block: &[u8], place: usize) -> Result<(), KeptError>
-        requires { held_by self.old ≡ first_day (held_by self.old).state }
-        ensures begins { OnOk result ((start : Option Snapshot)
-            × (block.now ≡ first_block (preface_of self.old) start)
-            × Begins H.loads (held_by self.old).state start (held_by self.new)) }
-        ensures batch { OnOk result ((held_by self.new).batch ≡ []) }
-        ensures stays { StaysInJournal self.old self.new }
-        ensures journal { journal_of self.new ≡ journal_of self.old }
-    {
-        let Some((preface, rest)) = taken(block) else {
-            return Err(KeptError::Damaged(place));
-        };
-        if preface != self.preface.as_slice() {
-            return Err(KeptError::OtherPreface);
-        }
-        if rest.is_empty() {
-            return Ok(());
-        }
-        self.load(rest, place)
-    }
-
-    // Loads the snapshot of the first block, at this place.
-    fn load(&mut self, bytes: &[u8], place: usize) -> Result<(), KeptError>
-        requires { held_by self.old ≡ first_day (held_by self.old).state }
-        ensures loaded { OnOk result ((start : Snapshot) × (bytes.now ≡ snapshot_bytes (Some start))
-            × Begins H.loads (held_by self.old).state (Some start) (held_by self.new)) }
-        ensures stays { StaysAsKept self.old self.new }
-        ensures journal { journal_of self.new ≡ journal_of self.old }
-    {
-        let Some((tokens, rest)) = number_in(bytes) else {
-            return Err(KeptError::Damaged(place));
-        };
-        let Some((latest, saved)) = number_in(rest) else {
-            return Err(KeptError::Damaged(place));
-        };
-        match self.handler.load(saved) {
-            Ok(()) => {}
-            Err(error) => return Err(refusal(error, place)),
-        }
-        self.tokens = tokens;
-        self.latest = latest;
-        Ok(())
-    }
-
-    // The next block of the journal; `None` where none follows.
-    fn next_block(&mut self) -> Result<Option<Vec<u8>>, KeptError>
-        ensures held { held_by self.new ≡ held_by self.old }
-        ensures stays { StaysAsKept self.old self.new }
-        ensures clean { J.is_clean (journal_of self.new) → J.is_clean (journal_of self.old) }
-        ensures read { IfOk result (λ block. J.is_clean (journal_of self.new)
-            → (blocks : List (List ℕ)) → J.has_so_far (journal_of self.old) blocks
-            → MatchOption block (J.has_read (journal_of self.new) blocks)
-            (λ b. J.has_so_far (journal_of self.new) (blocks ++ b.items ∷ []))) }
-    {
-        self.journal.next(self.alloc)
-    }
-
-    // Plays the blocks of the journal that weren't read yet.
-    fn play_blocks(&mut self) -> Result<(), KeptError>
-        ensures played { OnOk result ((blocks : List (List ℕ))
-            × PlaysRecords (answer_step H.answers) (concat blocks) (held_by self.old) (held_by self.new)
-            × (J.is_clean (journal_of self.new) → (before : List (List ℕ))
-            → J.has_so_far (journal_of self.old) before
-            → J.has_read (journal_of self.new) (before ++ blocks))) }
-        ensures stays { StaysAsKept self.old self.new }
-        ensures clean { J.is_clean (journal_of self.new) → J.is_clean (journal_of self.old) }
-    {
-        for _ in 0..u64::MAX {
-            let place = self.journal.place();
-            let Some(block) = self.next_block()? else {
-                return Ok(());
-            };
-            self.play_block(&block, place)?;
-        }
-        Err(KeptError::Disk)
-    }
-
-    // Plays the records of the block at this place.
-    fn play_block(&mut self, block: &[u8], place: usize) -> Result<(), KeptError>
-        ensures played { OnOk result
-            (PlaysRecords (answer_step H.answers) block.now (held_by self.old) (held_by self.new)) }
-        ensures stays { StaysAsKept self.old self.new }
-        ensures journal { journal_of self.new ≡ journal_of self.old }
-    {
-        let mut rest = block;
-        while !rest.is_empty() {
-            let Some((record, after)) = Record::read(rest) else {
-                return Err(KeptError::Damaged(place));
-            };
-            self.play(&record, place)?;
-            rest = after;
-        }
-        Ok(())
-    }
-
-    // Plays a record of the block at this place: the reply has to have the status that it had.
-    fn play(&mut self, record: &Record<'_>, place: usize) -> Result<(), KeptError>
-        requires { IsRecord record.now }
-        ensures played { OnOk result (PlaysRecords (answer_step H.answers) (record_bytes record.now)
-            (held_by self.old) (held_by self.new)) }
-        ensures stays { StaysAsKept self.old self.new }
-        ensures journal { journal_of self.new ≡ journal_of self.old }
-    {
-        let body = Bytes::copy_from_slice(self.alloc, record.body)?;
-        let request = record.request(&body);
-        let mut response = Response::new(self.alloc);
-        match self.handler.handle(&request, &mut response) {
-            Ok(_) => {}
-            Err(error) => return Err(refusal(error, place)),
-        }
-        if response.status.as_u16() != record.status {
-            return Err(KeptError::Damaged(place));
-        }
-        if !self.can_count(&request) {
-            return Err(KeptError::Damaged(place));
-        }
-        self.count(&request);
-        Ok(())
     }
 
     // Whether the token of a request can be counted.
@@ -285,12 +146,12 @@ impl<H: Handles + Drop, J: Keeps + Drop> Kept<H, J> {
             → (blocks : List (List ℕ)) → J.has_read (journal_of self.old) blocks
             → J.kept (journal_of self.new) blocks) }
     {
-        let mut first = Vec::new(self.alloc);
-        put(&mut first, &self.preface)?;
+        let first = plain_block(self.alloc, &self.preface)?;
         self.journal.begin()?;
         if self.is_new {
             self.journal.keep(self.alloc, &first)?;
             self.is_new = false;
+            self.base = self.journal.place();
         }
         Ok(())
     }
@@ -396,47 +257,6 @@ impl<H: Handles + Drop, J: Keeps + Drop> Kept<H, J> {
         Ok(())
     }
 
-    /// Keeps the batch, and then makes the journal begin anew with a snapshot: what is saved of the
-    /// state takes the place of the records that led to it. False where the disk has no room for
-    /// it: then only the batch is kept.
-    pub fn snapshot(&mut self) -> Result<bool, KeptError>
-        ensures held { IfOk result (λ _. held_by self.new ≡ committed (held_by self.old)) }
-        ensures stays { StaysInJournal self.old self.new }
-        ensures kept { IfOk result (λ b. J.is_clean (journal_of self.new)
-            → (blocks : List (List ℕ)) → J.kept (journal_of self.old) blocks
-            → J.kept (journal_of self.new) (with_snapshot b
-            (first_block (preface_of self.old) (Some (snapshot_of H.saved (held_by self.old))))
-            (with_batch blocks (held_by self.old).batch))) }
-        ensures any_moment { J.is_clean (journal_of self.new)
-            → (blocks : List (List ℕ)) → J.kept (journal_of self.old) blocks
-            → J.leaves (journal_of self.new) blocks (with_batch blocks (held_by self.old).batch)
-            ⊎ J.leaves (journal_of self.new) (with_batch blocks (held_by self.old).batch)
-            (first_block (preface_of self.old)
-            (Some (snapshot_of H.saved (held_by self.old))) ∷ []) }
-    {
-        self.commit()?;
-        let block = self.beginning()?;
-        if !self.journal.room_to_renew(block.len())? {
-            return Ok(false);
-        }
-        self.journal.renew(self.alloc, &block)?;
-        self.is_marked = true;
-        Ok(true)
-    }
-
-    // The first block of a journal that begins anew now.
-    fn beginning(&self) -> Result<Vec<u8>, KeptError>
-        ensures { IfOk result (λ v. v.items ≡ first_block (preface_of self.now)
-            (Some (snapshot_of H.saved (held_by self.now)))) }
-    {
-        let mut block = Vec::new(self.alloc);
-        put(&mut block, &self.preface)?;
-        block.extend_from_slice(&self.tokens.to_be_bytes())?;
-        block.extend_from_slice(&self.latest.to_be_bytes())?;
-        self.handler.save(&mut block)?;
-        Ok(block)
-    }
-
     /// Makes sure, in a quiet moment, that the loss of what was committed would be seen.
     pub fn keep_mark(&mut self) -> Result<(), KeptError>
         ensures held { held_by self.new ≡ held_by self.old }
@@ -460,12 +280,13 @@ impl<H: Handles + Drop, J: Keeps + Drop> Kept<H, J> {
         journal
     }
 
-    /// How many bytes the journal's blocks take: after a snapshot that is little more than the
-    /// snapshot, and each commit adds to it.
-    pub fn size(&self) -> usize
-        ensures { result ≡ J.ends_at (journal_of self.now) }
+    /// Whether the journal is to begin anew: its blocks take more than so many bytes, and more than
+    /// twice what they took when a snapshot was last made or tried.
+    pub fn is_long(&self, least: usize) -> bool
+        ensures { IsTrue result ↔ (least < J.ends_at (journal_of self.now))
+            × (2 * base_of self.now < J.ends_at (journal_of self.now)) }
     {
-        self.journal.place()
+        is_due(self.journal.place(), self.base, least)
     }
 
     /// How many of all records have a token.

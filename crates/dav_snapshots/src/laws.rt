@@ -13,7 +13,7 @@ pub fn bytes_have_one_reading()
 /// of a server is that of the run of all its records: of those that the snapshot stands for, of
 /// those in its journal and of those in its batch.
 pub fn lives_are_runs<H: Handles>()
-    ensures { LivesAreRuns H.answers H.saved H.loads }
+    ensures { LivesAreRuns H.answers H.saved H.is_saveable H.loads }
 {}
 
 /// A restart over the same snapshot and blocks runs the same records; where each answer and each

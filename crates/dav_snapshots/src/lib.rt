@@ -3,15 +3,19 @@
 #![tactic(auto)]
 
 mod error;
+mod former;
 mod handler;
 mod journal;
 mod kept;
 pub mod laws;
 mod over_journal;
 mod record;
+#[cfg(test)]
+mod tests;
 
 pub use error::{HandleError, KeptError};
+pub use former::adopt;
 pub use handler::{Effect, Handles};
 pub use journal::Keeps;
-pub use kept::Kept;
+pub use kept::{Kept, is_due};
 pub use record::{Record, Request};

@@ -4,7 +4,7 @@ ghost use Rattle.dav_journal.specs.Pair.{HasReadPair, IsCleanPair, IsKeptPair, I
 ghost use Rattle.sqlite_disk.specs.Disk.{Holds};
 ghost use Rattle.dav_journal.proofs.BlockLemmas.{rests_recovers};
 ghost use Rattle.dav_journal.proofs.PairLemmas.{pair_alone};
-ghost use Rattle.std.proofs.Common.{inl};
+ghost use Rattle.std.proofs.Common.{inl, inr};
 
 use crate::error::KeptError;
 use crate::journal::Keeps;
@@ -75,8 +75,12 @@ impl<D: Disk + Drop> Keeps for Pair<D> {
         Ok(Pair::keep_mark(self)?)
     }
 
-    ghost kept_is_left = { λ p blocks others kept c d may might.
-        inl (pair_alone c d _ blocks kept.small
-        (rests_recovers _ _ _ _ _ kept.kept.small (kept.kept.outcomes c may))
-        (rests_recovers _ _ _ _ _ kept.spare.small (kept.spare.outcomes d might))) };
+    ghost kept_is_left = { λ p blocks others kept. (
+      (λ c d may might. inl (pair_alone c d _ blocks kept.small
+          (rests_recovers _ _ _ _ _ kept.kept.small (kept.kept.outcomes c may))
+          (rests_recovers _ _ _ _ _ kept.spare.small (kept.spare.outcomes d might)))),
+      (λ c d may might. inr (pair_alone c d _ blocks kept.small
+          (rests_recovers _ _ _ _ _ kept.kept.small (kept.kept.outcomes c may))
+          (rests_recovers _ _ _ _ _ kept.spare.small (kept.spare.outcomes d might)))),
+    ) };
 }

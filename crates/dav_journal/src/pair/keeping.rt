@@ -102,7 +102,7 @@ impl<D: Disk + Drop> Pair<D> {
 }
 
 // The first block of a file of this generation, with this content.
-fn first_block(alloc: Global, generation: u64, content: &[u8]) -> Result<Vec<u8>, AllocError>
+pub fn first_block(alloc: Global, generation: u64, content: &[u8]) -> Result<Vec<u8>, AllocError>
     ensures { IfOk result (λ v. v.items ≡ to_be_bytes w64 generation ++ content.now) }
 {
     let mut block = Vec::new(alloc);

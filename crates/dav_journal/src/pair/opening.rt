@@ -5,7 +5,7 @@ ghost use Rattle.sqlite_disk.specs.Disk.{Holds};
 ghost use Rattle.dav_journal.specs.File.{Recovers};
 ghost use Rattle.dav_journal.specs.declared.error.JournalError.TheVariants.{Damaged};
 ghost use Rattle.dav_journal.specs.Journal.{HasRead, IsClean, IsReading, OnlyReads, blocks_end, blocks_len, disk_of, file_of};
-ghost use Rattle.dav_journal.specs.Pair.{HasFirst, HasReadPair, IsCleanPair, IsKeptPair, IsMixingPair, IsReadingPair, OnlyReadsPair, PairLeaves, PairLeavesOnly, PairRecovers, PairStandsFor, StaysPair, WereOpened, counting, generation_of, spare_of};
+ghost use Rattle.dav_journal.specs.Pair.{HasFirst, HasReadPair, IsCleanPair, IsKeptPair, IsMixingPair, IsOfGeneration, IsReadingPair, OnlyReadsPair, PairLeaves, PairLeavesOnly, PairRecovers, PairStandsFor, StaysPair, WereOpened, counting, generation_of, spare_of};
 
 use crate::block::number;
 use crate::error::JournalError;
@@ -23,6 +23,8 @@ impl<D: Disk + Drop> Pair<D> {
         ensures clean { IsCleanPair D.Disk self.new → IsCleanPair D.Disk self.old }
         ensures reading { OnOk result (IsCleanPair D.Disk self.new
             → IsReadingPair D.Disk self.new []) }
+        ensures generation { OnOk result (IsCleanPair D.Disk self.new
+            → IsOfGeneration D.Disk (counting self.new) (generation_of self.new)) }
         ensures any_moment { IsCleanPair D.Disk self.new → (contents : List (List ℕ))
             → PairLeavesOnly D.Disk self.old contents → PairLeavesOnly D.Disk self.new contents }
         ensures begun { IsCleanPair D.Disk self.new → WereOpened D.Disk self.old self.new }
@@ -44,6 +46,9 @@ impl<D: Disk + Drop> Pair<D> {
             → IsReading D.Disk (spare_of self.old) []
             → HasFirst D.Disk (counting self.old) first
             → HasFirst D.Disk (spare_of self.old) second → IsReadingPair D.Disk self.new []) }
+        ensures generation { OnOk result (HasFirst D.Disk (counting self.old) first
+            → HasFirst D.Disk (spare_of self.old) second
+            → IsOfGeneration D.Disk (counting self.new) (generation_of self.new)) }
         ensures same { ((counting self.new ≡ counting self.old)
             × (spare_of self.new ≡ spare_of self.old))
             ⊎ ((counting self.new ≡ spare_of self.old) × (spare_of self.new ≡ counting self.old)) }
@@ -69,7 +74,7 @@ impl<D: Disk + Drop> Pair<D> {
 
 // The generation that the first block of a journal begins with, which was opened; `None` where it
 // has no block.
-fn first_generation<D: Disk + Drop>(
+pub fn first_generation<D: Disk + Drop>(
     journal: &mut Journal<D>,
     alloc: Global,
 ) -> Result<Option<u64>, JournalError>

@@ -7,6 +7,8 @@ use sqlite_disk::{Disk, Fuse, Memory};
 use std::alloc::Global;
 use std::test::Fail;
 
+mod adopting;
+
 /// What a pair has after each step of its life: the third and the fifth begin anew.
 const STEPS: [&str; 6] = ["", "one,", "one,two,", "three,", "three,four,", "five,"];
 
@@ -25,7 +27,7 @@ fn read<D: Disk + Drop>(alloc: Global, pair: &mut Pair<D>) -> Result<Vec<u8>, Jo
 }
 
 // After how many steps a pair has what it has.
-fn found<D: Disk + Drop>(alloc: Global, pair: &mut Pair<D>) -> Result<usize, JournalError> {
+pub fn found<D: Disk + Drop>(alloc: Global, pair: &mut Pair<D>) -> Result<usize, JournalError> {
     let found = read(alloc, pair)?;
     for (step, text) in STEPS.iter().enumerate() {
         if found.as_slice() == text.as_bytes() {
@@ -114,7 +116,7 @@ fn file_of(alloc: Global, journal: &mut Journal<Memory>) -> Result<Vec<u8>, Jour
 }
 
 // The file that counts and the other one, after so many steps.
-fn files(alloc: Global, steps: usize) -> Result<(Vec<u8>, Vec<u8>), JournalError> {
+pub fn files(alloc: Global, steps: usize) -> Result<(Vec<u8>, Vec<u8>), JournalError> {
     let mut pair = Pair::new(Memory::new(alloc), Memory::new(alloc));
     read(alloc, &mut pair)?;
     live(alloc, &mut pair, 0, steps);
@@ -125,7 +127,7 @@ fn files(alloc: Global, steps: usize) -> Result<(Vec<u8>, Vec<u8>), JournalError
 }
 
 // A disk with a file of these bytes.
-fn disk(alloc: Global, bytes: &[u8]) -> Result<Memory, Fail> {
+pub fn disk(alloc: Global, bytes: &[u8]) -> Result<Memory, Fail> {
     let mut disk = Memory::new(alloc);
     if !bytes.is_empty() {
         disk.write_at(0, bytes)?;
@@ -140,33 +142,137 @@ fn steps_of(alloc: Global, one: &[u8], other: &[u8]) -> Result<Option<usize>, Fa
     Ok(found(alloc, &mut pair).ok())
 }
 
+/// Two files at a start, in either order, and after how many steps they are, or why they are refused. `front` has no block; `old`,
+/// `new` and `newer` are of one generation each, after 2, 3 and 5 steps; `begun` and `zeros` are what a crash left of a first
+/// write. Of `new` a crash within `renew` leaves `unmarked`, whole but not switched to, and `torn` and `early`, which isn't whole
+/// yet. Damage makes of it `flipped`, `short` and `lost`.
+const FILES: &str = "
+empty empty -> 0
+empty front -> 0
+front front -> 0
+begun empty -> 0
+zeros empty -> 0
+begun front -> 0
+old empty -> 2
+old begun -> 2
+old front -> 2
+new empty -> 3
+new front -> 3
+old new -> 3
+old newer -> 5
+new newer -> 5
+old unmarked -> 3
+empty unmarked -> 3
+old torn -> 2
+old early -> 2
+front torn -> 0
+old flipped -> Damaged
+old short -> Damaged
+old lost -> Damaged
+newer flipped -> Damaged
+empty lost -> Damaged
+old old -> Foreign
+new new -> Foreign
+new unmarked -> Foreign
+old other -> Foreign
+empty other -> Foreign
+";
+
+// Changes a byte.
+fn set(bytes: &mut [u8], place: usize, byte: u8) {
+    if let Some(old) = bytes.get_mut(place) {
+        *old = byte;
+    }
+}
+
+// Makes a part zeros.
+pub fn zero(bytes: &mut [u8], from: usize, to: usize) {
+    if let Some(part) = bytes.get_mut(from..to) {
+        part.fill(0);
+    }
+}
+
+// Makes of the file `new` another of these names.
+fn change(name: &str, new: &mut Vec<u8>) {
+    let len = new.len();
+    match name {
+        "new" | "old" | "newer" => return,
+        "begun" => new.truncate(31),
+        "short" => new.truncate(len.saturating_sub(4)),
+        "flipped" => set(new, len.saturating_sub(2), b'E'),
+        "lost" => zero(new, 72, len),
+        _ => zero(new, 24, 72),
+    }
+    match name {
+        "torn" => {
+            set(new, 72, 0);
+            set(new, len.saturating_sub(2), 0);
+        }
+        "early" => {
+            set(new, 72, 0);
+            zero(new, 100, len);
+        }
+        _ => {}
+    }
+}
+
+// The file of a name.
+pub fn file(alloc: Global, name: &str) -> Result<Vec<u8>, Fail> {
+    let steps = match name {
+        "old" => 2,
+        "newer" => 5,
+        _ => 3,
+    };
+    let (mut counts, spare) = files(alloc, steps)?;
+    match name {
+        "empty" => Ok(Vec::new(alloc)),
+        "zeros" => Ok(Vec::from_slice(alloc, &[0; 16])?),
+        "other" => Ok(Vec::from_slice(alloc, &[b'v'; 200])?),
+        "front" => Ok(spare),
+        _ => {
+            change(name, &mut counts);
+            Ok(counts)
+        }
+    }
+}
+
+// What a start finds over two files, or why it is refused; without their marks, as on a disk that isn't mixing, it is the same, and
+// lives on.
+fn start(alloc: Global, one: &[u8], other: &[u8]) -> Result<String, Fail> {
+    let mut pair = Pair::new(disk(alloc, one)?, disk(alloc, other)?);
+    let steps = match found(alloc, &mut pair) {
+        Ok(steps) => steps,
+        Err(error) => return Ok(format!(in alloc; "{error}")?),
+    };
+    let (mut one, mut other) = (Vec::from_slice(alloc, one)?, Vec::from_slice(alloc, other)?);
+    zero(&mut one, 24, 72);
+    zero(&mut other, 24, 72);
+    let mut pair = Pair::new(disk(alloc, &one)?, disk(alloc, &other)?);
+    let again = found(alloc, &mut pair)?;
+    let taken = live(alloc, &mut pair, again, 5);
+    let end = found(alloc, &mut pair)?;
+    if (again, taken, end) != (steps, 5, 5) {
+        return Ok(format!(in alloc; "{steps}, then {again}, {taken}, {end}")?);
+    }
+    Ok(format!(in alloc; "{steps}")?)
+}
+
 /// The file with the higher generation counts, in whichever order they come; two of one generation
 /// are refused.
 #[test]
 fn the_newer_file_counts(rt: HostRuntime) -> Result<(), Fail> {
     let alloc = rt.alloc();
-    let (first, none) = files(alloc, 2)?;
-    let (second, _) = files(alloc, 3)?;
-    let (third, _) = files(alloc, 5)?;
-    let empty: &[u8] = &[];
-    let rows: [(&[u8], &[u8], Option<usize>); 9] = [
-        (&first, &none, Some(2)),
-        (&first, empty, Some(2)),
-        (&none, &none, Some(0)),
-        (empty, &none, Some(0)),
-        (&first, &second, Some(3)),
-        (&second, &third, Some(5)),
-        (&first, &third, Some(5)),
-        (&first, &first, None),
-        (&third, &third, None),
-    ];
-    for (place, (one, other, wanted)) in rows.iter().enumerate() {
-        assert_eq!(rt; steps_of(alloc, one, other)?, *wanted, "row {place}");
-        assert_eq!(rt;
-            steps_of(alloc, other, one)?,
-            *wanted,
-            "row {place}, turned"
-        );
+    for row in FILES.trim().lines() {
+        let Some((names, wanted)) = row.split_once(" -> ") else {
+            return Err(Fail::new("a row without an arrow"));
+        };
+        let Some((one, other)) = names.split_once(' ') else {
+            return Err(Fail::new("a row of one file"));
+        };
+        let (one, other) = (file(alloc, one)?, file(alloc, other)?);
+        let (found, turned) = (start(alloc, &one, &other)?, start(alloc, &other, &one)?);
+        assert_eq!(rt; found.as_str(), wanted, "{row}");
+        assert_eq!(rt; turned.as_str(), wanted, "{row}, turned");
     }
     Ok(())
 }

@@ -1,5 +1,5 @@
 use Rattle.std.proofs.Common.{◌≡◌, List, ℕ, Err, ap, sym, ◌∙◌, subst, inl, inr}
-use Rattle.std.proofs.lemmas.Result.{err_from_is_err_and}
+use Rattle.std.proofs.lemmas.Result.{err_from_is_err_and, on_ok_weaker}
 use Rattle.dav_journal.specs.declared.pair.Pair.{Pair}
 use Rattle.dav_journal.specs.File.{Recovers}
 use Rattle.dav_journal.proofs.JournalLemmas.{err_moved}
@@ -88,3 +88,12 @@ returns-clause-begun g c clean =
     let (first, second) = turned_clean g.D.Disk mid c.choose.new.self c.choose.ensures.same clean in
     turned_opened g.D.Disk p mid c.choose.new.self c.choose.ensures.same
     (opened_then g.D.Disk _ _ _ _ (c.open.ensures.begun (one.clean first)) one) (opened_then g.D.Disk _ _ _ _ (c.open-2.ensures.begun (other.clean second)) other)
+
+pub returns-clause-generation : goal.returns-clause-generation
+returns-clause-generation g c = on_ok_weaker c.choose.result (λ chosen clean.
+    let one = c.first_generation.ensures.reads in
+    let other = c.first_generation-2.ensures.reads in
+    let mid : Pair g.row.D.Denot = record { counts = c.first_generation.new.journal; spare = c.first_generation-2.new.journal; generation = c.args.self.now.generation } in
+    let (first, second) = turned_clean g.D.Disk mid c.choose.new.self c.choose.ensures.same clean in
+    chosen ((c.in_ok-first.ensures.read first (c.in_ok-open.ensures.reading (one.clean first))).1)
+    ((c.in_ok-second.ensures.read second (c.in_ok-open-2.ensures.reading (other.clean second))).1)) c.choose.ensures.generation
