@@ -10,7 +10,7 @@ use std::str;
 use std::test::Fail;
 
 /// Requests, whose body, if any, follows `=`, and texts that the body of the response to the last one has, in this order; `!` for
-/// one that it hasn't, `0` for no body. Names are escaped in links (RFC 3986, section 2.1), and their characters that mean
+/// one that it hasn't. Names are escaped in links (RFC 3986, section 2.1), and their characters that mean
 /// something in HTML are references.
 const PAGES: &str = "\
 # what a page tells of a folder and its members
