@@ -4,6 +4,7 @@ use super::{answer, fits, unescaped};
 use crate::Handler;
 use dav_saved::LoadError;
 use std::alloc::{AllocError, Global};
+use std::process::Abort;
 use std::test::Fail;
 
 // Requests with their answers, as in a session, before the server is saved.
@@ -49,25 +50,47 @@ ROOT #1 #1 't' #0 #1 '/' 0 1 0 #1 'o' 1 #1 'D' 0 #0 #0 0 0 0 0 -> no
 
 const ROOT: &str = "#1 #1 #0 #0 #0 0 #0 #0 #0";
 
-#[test]
-fn saved_servers_answer_the_same(rt: HostRuntime) -> Result<(), Fail> {
-    let alloc = rt.alloc();
-    let mut server = Handler::new(alloc, "")?;
-    for row in BEFORE.lines() {
-        let (input, wanted) = row.split_once(" -> ").ok_or(row)?;
-        let found = answer(alloc, &mut server, &unescaped(alloc, input)?)?;
-        assert!(rt; fits(&found, wanted), "{row}");
-    }
+// Asserts that a server answers a request as its row says.
+fn ask(rt: &impl Abort, alloc: Global, server: &mut Handler, row: &str) -> Result<Vec<u8>, Fail> {
+    let (input, wanted) = row.split_once(" -> ").ok_or("no answer")?;
+    let input = unescaped(alloc, input)?;
+    let found = answer(alloc, server, &input)?;
+    assert!(*rt; fits(&found, wanted), "{row}");
+    Ok(found)
+}
+
+// Asserts that two servers answer a request alike, and as its row says.
+fn ask_both(
+    rt: &impl Abort,
+    alloc: Global,
+    one: &mut Handler,
+    other: &mut Handler,
+    row: &str,
+) -> Result<(), Fail> {
+    let first = ask(rt, alloc, one, row)?;
+    let second = ask(rt, alloc, other, row)?;
+    assert!(*rt; first == second, "{row}");
+    Ok(())
+}
+
+// The server that is loaded of what is saved of this one.
+fn reloaded(rt: &impl Abort, alloc: Global, server: &Handler) -> Result<Handler, Fail> {
     let mut saved = Vec::new(alloc);
-    assert!(rt; server.save(alloc, &mut saved)?);
+    assert!(*rt; server.save(alloc, &mut saved)?);
     let mut loaded = Handler::new(alloc, "")?;
     loaded.load(alloc, &saved)?;
+    Ok(loaded)
+}
+
+#[test]
+fn saved_servers_answer_the_same(rt: HostRuntime) -> Result<(), Fail> {
+    let mut server = Handler::new(rt.alloc(), "")?;
+    for row in BEFORE.lines() {
+        ask(&rt, rt.alloc(), &mut server, row)?;
+    }
+    let mut loaded = reloaded(&rt, rt.alloc(), &server)?;
     for row in AFTER.lines() {
-        let (input, wanted) = row.split_once(" -> ").ok_or(row)?;
-        let input = unescaped(alloc, input)?;
-        let found = answer(alloc, &mut loaded, &input)?;
-        assert!(rt; fits(&found, wanted), "{row}");
-        assert!(rt; found == answer(alloc, &mut server, &input)?, "{row}");
+        ask_both(&rt, rt.alloc(), &mut server, &mut loaded, row)?;
     }
     Ok(())
 }
