@@ -114,7 +114,8 @@ impl<D: Disk + Drop> Live<D> {
     pub fn begin(&mut self) -> Result<(), OpenError>
         ensures run { (first : ServerValue) (blocks : List (List ℕ)) (opened : IsOpened IsAnswer
             (λ j bs. HasRead D.Disk j bs) first blocks (kept_in self.old))
-            → AreNumbered 0 opened.run.records → OnOk result (IsClean D.Disk (journal_of (kept_in self.new))
+            → AreNumbered 0 opened.run.records
+            → OnOk result (IsClean D.Disk (journal_of (kept_in self.new))
             → IsOneRun IsAnswer (λ j bs. IsKept D.Disk j bs) first blocks (kept_in self.new)) }
         ensures clean { IsClean D.Disk (journal_of (kept_in self.new))
             → IsClean D.Disk (journal_of (kept_in self.old)) }

@@ -43,7 +43,8 @@ impl<H: Ends + Drop, J: Keeps + Drop> Service<H, J> {
         ensures run { IfOk result (λ s. (blocks : List (List ℕ))
             × (J.is_clean (journal_of (kept_of s)) → J.has_so_far journal []
             → IsOpened H.answers J.has_read handler blocks (kept_of s))) }
-        ensures clean { IfOk result (λ s. J.is_clean (journal_of (kept_of s)) → J.is_clean journal) }
+        ensures clean { IfOk result (λ s. J.is_clean (journal_of (kept_of s))
+            → J.is_clean journal) }
         ensures empty { IfOk result (λ s. (held_of s).batch ≡ []) }
         ensures admission { IfOk result (λ s. admission_of s ≡ record {
           prefix = string_bytes settings.prefix;
@@ -104,7 +105,8 @@ impl<H: Ends + Drop, J: Keeps + Drop> Service<H, J> {
     pub fn begin(&mut self) -> Result<(), OpenError>
         ensures run { (first : H) (blocks : List (List ℕ))
             (opened : IsOpened H.answers J.has_read first blocks (kept_of self.old))
-            → AreNumbered 0 opened.run.records → OnOk result (J.is_clean (journal_of (kept_of self.new))
+            → AreNumbered 0 opened.run.records
+            → OnOk result (J.is_clean (journal_of (kept_of self.new))
             → IsOneRun H.answers J.kept first blocks (kept_of self.new)) }
         ensures clean { J.is_clean (journal_of (kept_of self.new))
             → J.is_clean (journal_of (kept_of self.old)) }

@@ -103,7 +103,8 @@ impl<H: Handles + Drop, J: Keeps + Drop> Kept<H, J> {
     // Plays the blocks of the journal that weren't read yet.
     fn play_blocks(&mut self) -> Result<(), KeptError>
         ensures played { OnOk result ((blocks : List (List ℕ))
-            × PlaysRecords (answer_step H.answers) (concat blocks) (held_by self.old) (held_by self.new)
+            × PlaysRecords (answer_step H.answers) (concat blocks) (held_by self.old)
+            (held_by self.new)
             × (J.is_clean (journal_of self.new) → (before : List (List ℕ))
             → J.has_so_far (journal_of self.old) before
             → J.has_read (journal_of self.new) (before ++ blocks))) }

@@ -203,7 +203,8 @@ fn tree_of(alloc: Global, mut list: Vec<(Names, Node)>) -> Result<Entries, LoadE
 
 // What `MemFs::load` reads.
 fn read_world(alloc: Global, levels: usize, bytes: &[u8]) -> Result<(MemFs, &[u8]), LoadError>
-    ensures exact { GivesOnly IsWorld (λ x. (x.0.world, x.1.now)) result (world_at levels bytes.now) }
+    ensures exact { GivesOnly IsWorld (λ x. (x.0.world, x.1.now)) result
+        (world_at levels bytes.now) }
     ensures whole_store { IfOk result (λ x. x.0.short ≡ false) }
 {
     let ((next, list), rest) = list_of(alloc, levels, bytes)?;
