@@ -1,13 +1,13 @@
 -- Runs of records, and their bytes.
-use Rattle.std.specs.Prelude.{MatchOption}
+use Rattle.std.specs.Prelude.{IfSome, MatchOption}
 use Rattle.std.specs.List.{concat}
-use Rattle.std.proofs.Common.{◌≡◌, ◌≢◌, ℕ, Option, None, Some, ◌+◌, max, List, [], ◌∷◌, ◌++◌, length, refl, sym, ap, ◌∙◌, subst, arith, append-nil}
+use Rattle.std.proofs.Common.{◌≡◌, ◌≢◌, ℕ, Option, None, Some, ◌+◌, max, List, [], ◌∷◌, ◌++◌, length, refl, sym, ap, ◌∙◌, subst, arith, append-nil, append_assoc}
 use Rattle.std.proofs.lemmas.List.Elements.{All-nil, All-cons, All-head, All-tail, All-append}
 use Rattle.std.proofs.lemmas.Grind.{flat_map-append}
 use Rattle.std.proofs.lemmas.List.Folds.{concat-append}
 use Rattle.dav_kept.specs.Records.{IsRecord, OneReading, RecordView, records_bytes, latest_moment, record_bytes, count_tokens, token_count}
 use Rattle.dav_kept.specs.declared.kept.Kept.{Kept}
-use Rattle.dav_kept.specs.Kept.{RecordsFollow, Holding, Leads, PlaysRecords, RecordsRun, StaysAsKept}
+use Rattle.dav_kept.specs.Kept.{RecordsFollow, Holding, Leads, PlaysRecords, RecordsRun, StaysAsKept, committed, first_block, held_by, preface_of, snapshot_of}
 use Rattle.dav_kept.proofs.RecordLemmas.{one_record}
 
 tokens_append : (rs qs : List RecordView) → count_tokens (rs ++ qs) ≡ count_tokens rs + count_tokens qs
@@ -105,3 +105,23 @@ module _ {S : Type 0} (step : S → RecordView → S → Type 0) where
   pub follows_added : (r : RecordView) (old new : Holding S) → IsRecord r → step old.state r new.state → new.batch ≡ old.batch ++ record_bytes r
       → new.tokens ≡ old.tokens + token_count r.request.token → new.latest ≡ max old.latest r.request.moment → RecordsFollow step old new
   follows_added r old new is x batch counted last = record { more = record_bytes r; longer = batch; plays = plays_one step r old new is x counted last }
+
+pub if_some : {A : Type 0} (P : A → Type 0) (o : Option A) (x : A) → o ≡ Some x → IfSome o P → P x
+if_some P o x is holds = subst (λ q. IfSome q P) is holds
+
+-- ---- what a journal begins with
+
+pub holding_none : {S : Type 0} (state : S) (batch : List ℕ) (tokens latest : ℕ) → batch ≡ []
+    → ◌≡◌ {A = Holding S} (record { state = state; batch = batch; tokens = tokens; latest = latest }) (record { state = state; batch = []; tokens = tokens; latest = latest })
+holding_none state batch tokens latest none i = record { state = state; batch = none i; tokens = tokens; latest = latest }
+
+-- parts that are added one behind the other, to nothing
+pub four_parts : (p t l s one two three four : List ℕ) → one ≡ p → two ≡ one ++ t → three ≡ two ++ l → four ≡ three ++ s → four ≡ p ++ (t ++ (l ++ s))
+four_parts p t l s one two three four a b c d =
+    d ∙ ap (λ (x : List ℕ). x ++ s) (c ∙ ap (λ (x : List ℕ). x ++ l) (b ∙ ap (λ (x : List ℕ). x ++ t) a)) ∙ append_assoc (p ++ t) l s ∙ append_assoc p t (l ++ s)
+
+-- the first block of a journal that begins anew, after the batch was kept and before
+pub first_same : {H J : Type 0} (saved : H → List ℕ) (old new : Kept H J) (block : List ℕ) → preface_of new ≡ preface_of old → held_by new ≡ committed (held_by old)
+    → block ≡ first_block (preface_of new) (Some (snapshot_of saved (held_by new))) → block ≡ first_block (preface_of old) (Some (snapshot_of saved (held_by old)))
+first_same {H} saved old new block preface held is =
+    is ∙ ap (λ (p : List ℕ). first_block p (Some (snapshot_of saved (held_by new)))) preface ∙ ap (λ (h : Holding H). first_block (preface_of old) (Some (snapshot_of saved h))) held

@@ -1,4 +1,3 @@
 pub mod KeptLemmas
 pub mod LifeLemmas
-pub mod ReadLemmas
 pub mod RecordLemmas

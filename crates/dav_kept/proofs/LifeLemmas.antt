@@ -1,56 +1,139 @@
 -- The life of a server.
-use Rattle.std.proofs.Common.{◌≡◌, ℕ, ◌+◌, max, List, [], ◌∷◌, ◌++◌, refl, sym, ap, ◌∙◌, subst, append_assoc, append-nil}
+use Rattle.std.proofs.Common.{◌≡◌, ℕ, ◌+◌, max, Option, Some, None, List, [], ◌∷◌, ◌++◌, refl, sym, ap, ◌∙◌, subst, append_assoc, append-nil}
 use Rattle.std.specs.List.{concat}
 use Rattle.http_server.specs.declared.response.Response.{Response}
-use Rattle.dav_kept.specs.Kept.{RecordsFollow, Holding, IsRunOf, Leads, RecordsRun, after, answer_step, with_batch}
-use Rattle.dav_kept.specs.Life.{IsDetermined, LeftCanBeLeftOut, Lives, LivesAreRuns, RunsAreOne, recorded_in, record_of, with_change}
+use Rattle.dav_kept.specs.Kept.{Begins, RecordsFollow, Holding, IsRunOf, Leads, LoadsWhatWasSaved, PlaysRecords, RecordsRun, Snapshot, after, answer_step, committed, first_day, snapshot_of, with_batch}
+use Rattle.dav_kept.specs.Life.{IsBeginning, IsDetermined, IsRunSince, LeftCanBeLeftOut, Lives, LivesAreRuns, LoadsOne, RunsAreOne, recorded_in, record_of, with_change}
 use Rattle.dav_kept.specs.Records.{RecordView, RequestView, records_bytes, latest_moment, record_bytes, count_tokens}
 use Rattle.dav_kept.specs.declared.handler.Effect.{Effect}
 use Rattle.dav_kept.specs.declared.handler.Effect.TheVariants as effect
-use Rattle.dav_kept.proofs.KeptLemmas.{concat_more, leads_append, leads_none, one_reading}
+use Rattle.dav_kept.proofs.KeptLemmas.{concat_more, leads_append, leads_none, one_reading, plays_append, plays_none}
 
 -- a commit keeps the bytes of the records
 pub batch_joins : (blocks : List (List ℕ)) (batch : List ℕ) → concat (with_batch blocks batch) ++ [] ≡ concat blocks ++ batch
 batch_joins blocks [] = refl
 batch_joins blocks (b ∷ batch) = append-nil (concat (blocks ++ (b ∷ batch) ∷ [])) ∙ concat_more blocks (b ∷ batch)
 
-module _ {S : Type 0} (answers : S → RequestView → Response → S → Type 0) where
-  -- more records follow those of a run
-  pub run_goes_on : (first : S) (blocks : List (List ℕ)) (old new : Holding S) → IsRunOf (answer_step answers) first blocks old → RecordsFollow (answer_step answers) old new
-      → IsRunOf (answer_step answers) first blocks new
-  run_goes_on first blocks old new x f =
-      let step = answer_step answers in
-      let joined = leads_append step (concat blocks ++ old.batch) f.more first old.state new.state old.tokens f.plays.tokens old.latest f.plays.latest x f.plays.leads in
+-- records are played alike over what is held with another batch
+pub plays_from : {S : Type 0} (step : S → RecordView → S → Type 0) (bytes : List ℕ) (a b c : Holding S) → b.state ≡ a.state → b.tokens ≡ a.tokens → b.latest ≡ a.latest → PlaysRecords step bytes a c → PlaysRecords step bytes b c
+plays_from step bytes a b c state tokens latest p = record {
+  tokens = p.tokens;
+  latest = p.latest;
+  leads = subst (λ s. Leads step bytes s c.state p.tokens p.latest) (sym state) p.leads;
+  counted = p.counted ∙ ap (λ (n : ℕ). n + p.tokens) (sym tokens);
+  last = p.last ∙ ap (λ (n : ℕ). max n p.latest) (sym latest);
+}
+
+module _ {S : Type 0} (answers : S → RequestView → Response → S → Type 0) (saved : S → List ℕ) (is_saveable : S → Type 0) (loads : S → List ℕ → S → Type 0) (first : S) where
+  -- the run since the first day, from a beginning on
+  abbrev pub since : (start : Option Snapshot) (blocks : List (List ℕ)) (now : Holding S) (bytes : List ℕ) (begin : Holding S) → Leads (answer_step answers) bytes first begin.state begin.tokens begin.latest
+      → IsBeginning saved is_saveable first bytes begin start → PlaysRecords (answer_step answers) (concat blocks ++ now.batch) begin now → IsRunSince (answer_step answers) saved is_saveable first start blocks now
+  since start blocks now bytes begin before beginning plays = record {
+    bytes = bytes;
+    begin = begin;
+    before = before;
+    beginning = beginning;
+    plays = plays;
+    all =
+        let step = answer_step answers in
+        let whole = bytes ++ (concat blocks ++ now.batch) in
+        let joined = leads_append step bytes (concat blocks ++ now.batch) first begin.state now.state begin.tokens plays.tokens begin.latest plays.latest before plays.leads in
+        subst (λ (n : ℕ). Leads step whole first now.state n now.latest) (sym plays.counted)
+        (subst (λ (l : ℕ). Leads step whole first now.state (begin.tokens + plays.tokens) l) (sym plays.last) joined);
+  }
+
+  -- more records follow
+  abbrev pub after_answers : (start : Option Snapshot) (blocks : List (List ℕ)) (old new : Holding S) → IsRunSince (answer_step answers) saved is_saveable first start blocks old → RecordsFollow (answer_step answers) old new
+      → IsRunSince (answer_step answers) saved is_saveable first start blocks new
+  after_answers start blocks old new x f =
       let bytes : (concat blocks ++ old.batch) ++ f.more ≡ concat blocks ++ new.batch =
       append_assoc (concat blocks) old.batch f.more ∙ ap (λ (t : List ℕ). concat blocks ++ t) (sym f.longer) in
-      subst (λ (n : ℕ). Leads step (concat blocks ++ new.batch) first new.state n new.latest) (sym f.plays.counted)
-      (subst (λ (l : ℕ). Leads step (concat blocks ++ new.batch) first new.state (old.tokens + f.plays.tokens) l) (sym f.plays.last)
-      (subst (λ (t : List ℕ). Leads step t first new.state (old.tokens + f.plays.tokens) (max old.latest f.plays.latest)) bytes joined))
+      since start blocks new x.bytes x.begin x.before x.beginning
+      (subst (λ (t : List ℕ). PlaysRecords (answer_step answers) t x.begin new) bytes (plays_append (answer_step answers) (concat blocks ++ old.batch) f.more x.begin old new x.plays f.plays))
 
-  pub lives_are_runs : LivesAreRuns answers
-  lives_are_runs first _ _ Lives.begins = leads_none (answer_step answers) first
-  lives_are_runs first blocks new (Lives.answered {old = old} x f) = run_goes_on first blocks old new (lives_are_runs first blocks old x) f
-  lives_are_runs first _ _ (Lives.commits {blocks} {old} x) =
-      subst (λ (t : List ℕ). Leads (answer_step answers) t first old.state old.tokens old.latest) (sym (batch_joins blocks old.batch)) (lives_are_runs first blocks old x)
-  lives_are_runs first _ _ (Lives.starts x none run) = run
-  lives_are_runs first _ _ (Lives.starts_after_a_commit x none run) = run
+  abbrev pub after_commit : (start : Option Snapshot) (blocks : List (List ℕ)) (old : Holding S) → IsRunSince (answer_step answers) saved is_saveable first start blocks old
+      → IsRunSince (answer_step answers) saved is_saveable first start (with_batch blocks old.batch) (committed old)
+  after_commit start blocks old x =
+      since start (with_batch blocks old.batch) (committed old) x.bytes x.begin x.before x.beginning
+      (subst (λ (t : List ℕ). PlaysRecords (answer_step answers) t x.begin (committed old)) (sym (batch_joins blocks old.batch))
+      (record { tokens = x.plays.tokens; latest = x.plays.latest; leads = x.plays.leads; counted = x.plays.counted; last = x.plays.last }))
 
+  abbrev pub after_snapshot : (start : Option Snapshot) (blocks : List (List ℕ)) (old : Holding S) → old.batch ≡ [] → is_saveable old.state → IsRunSince (answer_step answers) saved is_saveable first start blocks old
+      → IsRunSince (answer_step answers) saved is_saveable first (Some (snapshot_of saved old)) [] old
+  after_snapshot start blocks old none can x =
+      since (Some (snapshot_of saved old)) [] old (x.bytes ++ (concat blocks ++ old.batch)) old x.all (refl, can)
+      (subst (λ (t : List ℕ). PlaysRecords (answer_step answers) t old old) (sym none) (plays_none (answer_step answers) old))
+
+  -- a start begins with what was held where the journal begins
+  same_beginning : LoadsWhatWasSaved answers saved is_saveable loads → (start : Option Snapshot) (bytes : List ℕ) (was now : Holding S) → Leads (answer_step answers) bytes first was.state was.tokens was.latest
+      → IsBeginning saved is_saveable first bytes was start → Begins loads first start now → (now.state ≡ was.state) × (now.tokens ≡ was.tokens) × (now.latest ≡ was.latest)
+  same_beginning back None bytes was now before begins is =
+      let same = is ∙ sym begins.1 in (ap (λ (h : Holding S). h.state) same, ap (λ (h : Holding S). h.tokens) same, ap (λ (h : Holding S). h.latest) same)
+  same_beginning back (Some s) bytes was now before begins is = (
+    back first was.state now.state before.records before.runs begins.1 (subst (λ (t : Snapshot). loads first t.saved now.state) begins.0 is.1),
+    ap (λ (h : Holding S). h.tokens) is.0 ∙ ap (λ (t : Snapshot). t.tokens) begins.0,
+    ap (λ (h : Holding S). h.latest) is.0 ∙ ap (λ (t : Snapshot). t.latest) begins.0,
+  )
+
+  -- a start over what is left, which begins as a run since the first day does
+  abbrev pub after_start : LoadsWhatWasSaved answers saved is_saveable loads → (start : Option Snapshot) (blocks left : List (List ℕ)) (old new : Holding S) → IsRunSince (answer_step answers) saved is_saveable first start blocks old
+      → IsRunOf (answer_step answers) loads first start left new → IsRunSince (answer_step answers) saved is_saveable first start left new
+  after_start back start blocks left old new x run =
+      let same = same_beginning back start x.bytes x.begin run.begin x.before x.beginning run.begins in
+      since start left new x.bytes x.begin x.before x.beginning (plays_from (answer_step answers) (concat left ++ new.batch) run.begin x.begin new (sym same.0) (sym same.1) (sym same.2) run.plays)
+
+  lives_since : LoadsWhatWasSaved answers saved is_saveable loads → (start : Option Snapshot) (blocks : List (List ℕ)) (now : Holding S) → Lives answers saved is_saveable loads first start blocks now
+      → IsRunSince (answer_step answers) saved is_saveable first start blocks now
+  lives_since back _ _ _ Lives.begins = since None [] (first_day first) [] (first_day first) (leads_none (answer_step answers) first) (refl, refl) (plays_none (answer_step answers) (first_day first))
+  lives_since back start blocks new (Lives.answered {old = old} x f) = after_answers start blocks old new (lives_since back start blocks old x) f
+  lives_since back _ _ _ (Lives.commits {start} {blocks} {old} x) = after_commit start blocks old (lives_since back start blocks old x)
+  lives_since back _ _ _ (Lives.saves {start} {blocks} {old} x none can) = after_snapshot start blocks old none can (lives_since back start blocks old x)
+  lives_since back _ _ _ (Lives.starts {start} {blocks} {old} {new} x none run) = after_start back start blocks blocks old new (lives_since back start blocks old x) run
+  lives_since back _ _ _ (Lives.starts_after_a_commit {start} {blocks} {old} {new} x none run) =
+      after_start back start (with_batch blocks old.batch) (with_batch blocks old.batch) (committed old) new (after_commit start blocks old (lives_since back start blocks old x)) run
+  lives_since back _ _ _ (Lives.starts_after_a_snapshot {start} {blocks} {old} {new} x empty can none run) =
+      after_start back (Some (snapshot_of saved old)) [] [] old new (after_snapshot start blocks old empty can (lives_since back start blocks old x)) run
+
+pub lives_are_runs : {S : Type 0} (answers : S → RequestView → Response → S → Type 0) (saved : S → List ℕ) (is_saveable : S → Type 0) (loads : S → List ℕ → S → Type 0) → LoadsWhatWasSaved answers saved is_saveable loads → LivesAreRuns answers saved is_saveable loads
+lives_are_runs answers saved is_saveable loads back first start blocks now x = lives_since answers saved is_saveable loads first back start blocks now x
+
+module _ {S : Type 0} (answers : S → RequestView → Response → S → Type 0) where
   -- records lead from one state to one state, where each does
-  one_end : IsDetermined (answer_step answers) → (rs : List RecordView) (old a b : S) → RecordsRun (answer_step answers) old rs a → RecordsRun (answer_step answers) old rs b → a ≡ b
+  pub one_end : IsDetermined (answer_step answers) → (rs : List RecordView) (old a b : S) → RecordsRun (answer_step answers) old rs a → RecordsRun (answer_step answers) old rs b → a ≡ b
   one_end one [] old a b x y = x ∙ sym y
   one_end one (r ∷ rs) old a b x y =
       let mid = one old r x.0 y.0 x.1 y.1 in
       one_end one rs x.0 a b x.2 (subst (λ s. RecordsRun (answer_step answers) s rs b) (sym mid) y.2)
 
-  pub runs_are_one : RunsAreOne answers
-  runs_are_one first blocks a b x y batch =
-      let same : x.records ≡ y.records = one_reading x.records y.records x.are y.are
-      (sym x.spelled ∙ ap (λ (t : List ℕ). concat blocks ++ t) batch ∙ y.spelled) in (
+  -- two starts over one beginning
+  one_beginning : (loads : S → List ℕ → S → Type 0) (first : S) (start : Option Snapshot) (a b : Holding S) → Begins loads first start a → Begins loads first start b
+      → (a.tokens ≡ b.tokens) × (a.latest ≡ b.latest) × (LoadsOne loads → a.state ≡ b.state)
+  one_beginning loads first None a b x y = (
+    ap (λ (h : Holding S). h.tokens) (x ∙ sym y),
+    ap (λ (h : Holding S). h.latest) (x ∙ sym y),
+    λ one. ap (λ (h : Holding S). h.state) (x ∙ sym y),
+  )
+  one_beginning loads first (Some s) a b x y = (
+    ap (λ (h : Holding S). h.tokens) x.0 ∙ sym (ap (λ (h : Holding S). h.tokens) y.0),
+    ap (λ (h : Holding S). h.latest) x.0 ∙ sym (ap (λ (h : Holding S). h.latest) y.0),
+    λ one. one first a.state b.state s.saved x.1 y.1,
+  )
+
+  pub runs_are_one : (loads : S → List ℕ → S → Type 0) → RunsAreOne answers loads
+  runs_are_one loads first start blocks a b x y batch =
+      let (tokens, latest, state) = one_beginning loads first start x.begin y.begin x.begins y.begins in
+      let one = x.plays.leads in
+      let other = y.plays.leads in
+      let same : one.records ≡ other.records = one_reading one.records other.records one.are other.are
+      (sym one.spelled ∙ ap (λ (t : List ℕ). concat blocks ++ t) batch ∙ other.spelled) in
+      let counted : x.plays.tokens ≡ y.plays.tokens = one.counted ∙ ap count_tokens same ∙ sym other.counted in
+      let last : x.plays.latest ≡ y.plays.latest = one.last ∙ ap latest_moment same ∙ sym other.last in (
         same,
-        x.counted ∙ ap count_tokens same ∙ sym y.counted,
-        x.last ∙ ap latest_moment same ∙ sym y.last,
-        (λ one. one_end one x.records first a.state b.state x.runs
-            (subst (λ (rs : List RecordView). RecordsRun (answer_step answers) first rs b.state) (sym same) y.runs)),
+        x.plays.counted ∙ ap (λ (n : ℕ). n + x.plays.tokens) tokens ∙ ap (λ (n : ℕ). y.begin.tokens + n) counted ∙ sym y.plays.counted,
+        x.plays.last ∙ ap (λ (n : ℕ). max n x.plays.latest) latest ∙ ap (λ (n : ℕ). max y.begin.latest n) last ∙ sym y.plays.last,
+        (λ determined loaded. one_end determined one.records x.begin.state a.state b.state one.runs
+            (subst (λ (rs : List RecordView). RecordsRun (answer_step answers) x.begin.state rs b.state) (sym same)
+            (subst (λ s. RecordsRun (answer_step answers) s other.records b.state) (sym (state loaded)) other.runs))),
       )
 
   -- one call, of either kind, and then others

@@ -156,3 +156,9 @@ one_record r q rest more is other e =
     (optional_bytes r.request.principal ++ (optional_bytes r.request.token ++ left)) left other e (in_order r rest, is.request.moment_fits, is.status_fits)
     is.request.principal_is_text is.request.token_is_text refl in
     is_read q more r.request.head r.request.body rest other is.request.head_fits is.request.body_fits who refl
+
+-- a number, and what follows it
+pub number_read : (bs front rest : List ℕ) (n : ℕ) → ((i : ℕ) → get_or bs i 0 < 256) → front ≡ slice_range bs 0 8 → length front ≡ 8 → n ≡ from_be_bytes w64 front → rest ≡ slice_range bs 8 (length bs)
+    → bs ≡ to_be_bytes w64 n ++ rest
+number_read bs front rest n small is eight number after =
+    parts 8 bs front rest is after ∙ ap (λ (ys : List ℕ). ys ++ rest) (sym (be_bytes_8 front n eight (λ i. rw is (small_take 8 bs small i)) number))

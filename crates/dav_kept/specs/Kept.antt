@@ -1,11 +1,12 @@
 -- The state that the records of a journal make, and what a server keeps.
-use Rattle.std.specs.Prelude.{◌≡◌, ℕ, ◌+◌, max, Bool, true, false, List, [], ◌∷◌, ◌++◌, All}
+use Rattle.std.specs.Prelude.{◌≡◌, ℕ, ◌+◌, max, Bool, true, false, Option, Some, None, List, [], ◌∷◌, ◌++◌, All}
+use Rattle.std.specs.Int.{w64, to_be_bytes}
 use Rattle.std.specs.List.{concat}
 use Rattle.http_server.specs.declared.response.Response.{Response}
 use Rattle.dav_kept.specs.declared.handler.Effect.{Effect}
 use Rattle.dav_kept.specs.declared.handler.Effect.TheVariants as effect
 use Rattle.dav_kept.specs.declared.kept.Kept.{Kept}
-use Rattle.dav_kept.specs.Records.{IsRecord, RecordView, RequestView, records_bytes, latest_moment, record_bytes, count_tokens, token_count}
+use Rattle.dav_kept.specs.Records.{IsRecord, RecordView, RequestView, records_bytes, latest_moment, record_bytes, sized_bytes, count_tokens, token_count}
 
 -- a step: the request of a record is answered, with the status that the record has
 abbrev pub answer_step : {S : Type 0} → (S → RequestView → Response → S → Type 0)
@@ -38,13 +39,6 @@ pub record Leads {S : Type 0} (step : S → RecordView → S → Type 0) (bytes 
   pub counted : tokens ≡ count_tokens records
   pub last : latest ≡ latest_moment records
 
--- The state of a server is that of the run of its records, from a first state: of those in these
--- blocks, and of those in its batch.
-abbrev pub IsRunOf : {S : Type 0} → (S → RecordView → S → Type 0)
-    → S → List (List ℕ) → Holding S → Type 0
-IsRunOf step first blocks now =
-    Leads step (concat blocks ++ now.batch) first now.state now.tokens now.latest
-
 -- The records of these bytes lead from the one state to the other, and are counted.
 pub record PlaysRecords {S : Type 0} (step : S → RecordView → S → Type 0) (bytes : List ℕ)
     (old new : Holding S) : Type 0 where
@@ -53,6 +47,58 @@ pub record PlaysRecords {S : Type 0} (step : S → RecordView → S → Type 0) 
   pub leads : Leads step bytes old.state new.state tokens latest
   pub counted : new.tokens ≡ old.tokens + tokens
   pub last : new.latest ≡ max old.latest latest
+
+-- what a server holds on its first day
+abbrev pub first_day : {S : Type 0} → S → Holding S
+first_day first = record { state = first; batch = []; tokens = 0; latest = 0 }
+
+-- What a journal begins with once it has begun anew: how many records before it have a token, the
+-- latest moment of them, and what was saved of the state that they led to.
+pub record Snapshot : Type 0 where
+  pub tokens : ℕ
+  pub latest : ℕ
+  pub saved : List ℕ
+
+-- the snapshot of what a server holds
+abbrev pub snapshot_of : {S : Type 0} → (S → List ℕ) → Holding S → Snapshot
+snapshot_of saved now =
+    record { tokens = now.tokens; latest = now.latest; saved = saved now.state }
+
+-- the bytes of a snapshot, none where there is none
+abbrev pub snapshot_bytes : Option Snapshot → List ℕ
+snapshot_bytes None = []
+snapshot_bytes (Some s) = to_be_bytes w64 s.tokens ++ (to_be_bytes w64 s.latest ++ s.saved)
+
+-- the first block of a journal: the preface with its length, and the snapshot
+abbrev pub first_block : List ℕ → Option Snapshot → List ℕ
+first_block preface start = sized_bytes preface ++ snapshot_bytes start
+
+-- What a server holds that has read the first block: its first state, or what the snapshot has,
+-- with a state that is loaded from the bytes.
+abbrev pub Begins : {S : Type 0} → (S → List ℕ → S → Type 0) → S → Option Snapshot → Holding S
+    → Type 0
+Begins loads first None now = now ≡ first_day first
+Begins loads first (Some s) now =
+    (now ≡ record { state = now.state; batch = []; tokens = s.tokens; latest = s.latest })
+    × loads first s.saved now.state
+
+-- The state of a server is that of the run of its records, from what its journal begins with: of
+-- those in these blocks, and of those in its batch.
+pub record IsRunOf {S : Type 0} (step : S → RecordView → S → Type 0)
+    (loads : S → List ℕ → S → Type 0) (first : S) (start : Option Snapshot)
+    (blocks : List (List ℕ)) (now : Holding S) : Type 0 where
+  pub begin : Holding S
+  pub begins : Begins loads first start begin
+  pub plays : PlaysRecords step (concat blocks ++ now.batch) begin now
+
+-- What was saved of a state that can be saved, and to which records lead from a first one, is
+-- loaded into that first one as the same state.
+abbrev pub LoadsWhatWasSaved : {S : Type 0} → (S → RequestView → Response → S → Type 0)
+    → (S → List ℕ) → (S → Type 0) → (S → List ℕ → S → Type 0) → Type 0
+LoadsWhatWasSaved {S} answers saved is_saveable loads =
+    (first state loaded : S) (records : List RecordView)
+    → RecordsRun (answer_step answers) first records state → is_saveable state
+    → loads first (saved state) loaded → loaded ≡ state
 
 -- More records follow those of the batch, lead from the one state to the other, and are counted.
 pub record RecordsFollow {S : Type 0} (step : S → RecordView → S → Type 0) (old new : Holding S)
@@ -88,10 +134,16 @@ abbrev pub with_batch : List (List ℕ) → List ℕ → List (List ℕ)
 with_batch blocks [] = blocks
 with_batch blocks (b ∷ batch) = blocks ++ (b ∷ batch) ∷ []
 
--- all blocks of a journal: none where it is new, or else the preface before these
-abbrev pub with_preface : Bool → List ℕ → List (List ℕ) → List (List ℕ)
-with_preface true preface blocks = []
-with_preface false preface blocks = preface ∷ blocks
+-- all blocks of a journal: none where it is new, or else the first one before these
+abbrev pub with_first : Bool → List ℕ → List (List ℕ) → List (List ℕ)
+with_first true first blocks = []
+with_first false first blocks = first ∷ blocks
+
+-- the blocks after a snapshot: the first one of a journal that began anew, or, where there was no
+-- room, those from before it
+abbrev pub with_snapshot : Bool → List ℕ → List (List ℕ) → List (List ℕ)
+with_snapshot true first blocks = first ∷ []
+with_snapshot false first blocks = blocks
 
 -- what a server holds
 abbrev pub held_by : {H J : Type 0} → Kept H J → Holding H
@@ -102,9 +154,13 @@ held_by k =
 abbrev pub journal_of : {H J : Type 0} → Kept H J → J
 journal_of k = k.journal
 
--- the first block of its journal
+-- what the first block of its journal begins with
 abbrev pub preface_of : {H J : Type 0} → Kept H J → List ℕ
 preface_of k = k.preface.items
+
+-- where the blocks of its journal ended at its last snapshot
+abbrev pub base_of : {H J : Type 0} → Kept H J → ℕ
+base_of k = k.base
 
 -- its journal has no block
 abbrev pub is_new : {H J : Type 0} → Kept H J → Bool

@@ -1,7 +1,8 @@
 //! What answers requests.
-ghost use Rattle.std.specs.Prelude.{◌≡◌, IfOk};
+ghost use Rattle.std.specs.Prelude.{◌≡◌, ◌++◌, ℕ, List, IsTrue, IfOk, OnOk};
 ghost use Rattle.http_server.specs.declared.response.Response.{Response};
 ghost use Rattle.http_server.specs.Response.{IsBlank};
+ghost use Rattle.dav_kept.specs.Kept.{LoadsWhatWasSaved};
 ghost use Rattle.dav_kept.specs.Records.{RequestView};
 ghost use Rattle.dav_kept.specs.declared.handler.Effect.TheVariants.{Left};
 
@@ -34,4 +35,26 @@ pub trait Handles {
         requires { IsBlank response.old }
         ensures answers { IfOk result (λ _. answers self.old request.now response.new self.new) }
         ensures left { IfOk result (λ effect. effect ≡ Left → self.new ≡ self.old) };
+
+    // What is saved of a state.
+    ghost saved: { Self → List ℕ };
+
+    // What was saved of this state can be loaded.
+    ghost is_saveable: { Self → Type 0 };
+
+    // The second state is loaded from these bytes, by a server in the first one.
+    ghost loads: { Self → List ℕ → Self → Type 0 };
+
+    /// Adds what is saved of the state. False where that couldn't be loaded: what was added then is
+    /// of no use.
+    fn save(&self, out: &mut Vec<u8>) -> Result<bool, HandleError>
+        ensures { IfOk result (λ is. IsTrue is
+            → (out.new.items ≡ out.old.items ++ saved self.now) × is_saveable self.now) };
+
+    /// Loads the state that these bytes were saved of, in the place of the first one. `Malformed`
+    /// where they are those of none; after an error nothing may be asked.
+    fn load(&mut self, bytes: &[u8]) -> Result<(), HandleError>
+        ensures { OnOk result (loads self.old bytes.now self.new) };
+
+    ghost loads_what_was_saved: { LoadsWhatWasSaved answers saved is_saveable loads };
 }

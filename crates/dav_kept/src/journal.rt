@@ -5,7 +5,7 @@ use crate::error::KeptError;
 use std::alloc::Global;
 
 /// What keeps blocks of bytes, over a crash too. Its blocks are read first, in their order, until
-/// none follows; then it is first_day, and more are kept.
+/// none follows; then it begins, and more are kept.
 pub trait Keeps {
     // No wrong answer of what the blocks are on was taken for a true one.
     ghost is_clean: { Self → Type 0 };
@@ -63,6 +63,7 @@ pub trait Keeps {
 
     /// Makes room for a block of so many bytes. False where there is none.
     fn room(&mut self, size: usize) -> Result<bool, KeptError>
+        ensures clean { is_clean self.new → is_clean self.old }
         ensures kept { (blocks : List (List ℕ)) → kept self.old blocks → kept self.new blocks };
 
     /// Keeps a block after the others. After an error, but for `Memory`, nothing more may be asked.
@@ -73,13 +74,28 @@ pub trait Keeps {
         ensures any_moment { (blocks : List (List ℕ)) → kept self.old blocks
             → leaves self.new blocks (blocks ++ block.now ∷ []) };
 
+    /// Makes room to begin anew with a block of so many bytes. False where there is none.
+    fn room_to_renew(&mut self, size: usize) -> Result<bool, KeptError>
+        ensures clean { is_clean self.new → is_clean self.old }
+        ensures kept { (blocks : List (List ℕ)) → kept self.old blocks → kept self.new blocks };
+
+    /// Begins anew: this block takes the place of all that are kept. After an error nothing more
+    /// may be asked.
+    fn renew(&mut self, alloc: Global, block: &[u8]) -> Result<(), KeptError>
+        ensures clean { is_clean self.new → is_clean self.old }
+        ensures kept { OnOk result (is_clean self.new → (blocks : List (List ℕ))
+            → kept self.old blocks → kept self.new (block.now ∷ [])) }
+        ensures any_moment { is_clean self.new → (blocks : List (List ℕ)) → kept self.old blocks
+            → leaves self.new blocks (block.now ∷ []) };
+
     /// Makes sure that the loss of the last block would be seen.
     fn keep_mark(&mut self) -> Result<(), KeptError>
+        ensures clean { is_clean self.new → is_clean self.old }
         ensures kept { OnOk result ((blocks : List (List ℕ)) → kept self.old blocks
             → kept self.new blocks) }
         ensures any_moment { (blocks : List (List ℕ)) → kept self.old blocks
             → leaves self.new blocks blocks };
 
-    ghost kept_is_left: { (j : Self) (blocks : List (List ℕ)) → kept j blocks
-        → leaves j blocks blocks };
+    ghost kept_is_left: { (j : Self) (blocks others : List (List ℕ)) → kept j blocks
+        → leaves j blocks others × leaves j others blocks };
 }

@@ -1,31 +1,37 @@
 //! A handler and the journal of what it answered.
-ghost use Rattle.std.specs.Prelude.{◌≡◌, ◌≢◌, ◌+◌, ◌<◌, ◌^◌, ◌++◌, ◌∷◌, ◌↔◌, ℕ, List, length, [], true, false, IsTrue, MatchOption, IfOk, OnOk};
+ghost use Rattle.std.specs.Prelude.{◌≡◌, ◌≢◌, ◌⊎◌, ◌+◌, ◌*◌, ◌<◌, ◌^◌, ◌++◌, ◌∷◌, ◌↔◌, ℕ, Option, Some, None, List, length, [], true, false, IsTrue, MatchOption, IfSome, IfOk, OnOk};
 ghost use Rattle.std.specs.List.{concat};
 ghost use Rattle.http_server.specs.declared.response.Response.{Response};
 ghost use Rattle.http_server.specs.Response.{IsBlank};
 ghost use Rattle.dav_kept.specs.Records.{IsRecord, record_bytes, token_count};
-ghost use Rattle.dav_kept.specs.Kept.{IsAnswerOf, RecordsFollow, IsRunOf, PlaysRecords, StaysAsKept, StaysInJournal, after, committed, held_by, is_new, journal_of, preface_of, answer_step, with_batch, with_count, with_preface};
+ghost use Rattle.dav_kept.specs.Kept.{Begins, IsAnswerOf, RecordsFollow, IsRunOf, PlaysRecords, Snapshot, StaysAsKept, StaysInJournal, after, committed, first_block, first_day, held_by, is_new, journal_of, preface_of, snapshot_bytes, snapshot_of, answer_step, base_of, with_batch, with_count, with_first, with_snapshot};
 ghost use Rattle.dav_kept.specs.declared.handler.Effect.TheVariants.{Changed};
 
-use crate::error::{KeptError, refusal};
+mod saving;
+mod starting;
+
+use crate::error::KeptError;
 use crate::handler::{Effect, Handles};
 use crate::journal::Keeps;
-use crate::record::{Record, Request};
-use bytes::Bytes;
+use crate::record::Request;
 use http_server::Response;
+pub use saving::{is_due, plain_block};
 use std::alloc::Global;
 
 /// A handler and its journal: the handler's state is that of the run of the records in the
-/// journal's blocks and in the batch.
+/// journal's blocks and in the batch, from the state that the journal begins with.
 #[derive(Drop)]
 pub struct Kept<H, J> {
     alloc: Global,
     handler: H,
     journal: J,
-    /// The first block of the journal.
+    /// What the first block of the journal begins with.
     preface: Vec<u8>,
     /// Whether the journal has no block.
     is_new: bool,
+    /// Where the blocks ended when a snapshot was last made or tried; at a start, where the first one
+    /// ends.
+    base: usize,
     /// Whether the loss of its last block would be seen.
     is_marked: bool,
     /// The records since the last commit.
@@ -38,22 +44,24 @@ pub struct Kept<H, J> {
 
 impl<H: Handles + Drop, J: Keeps + Drop> Kept<H, J> {
     /// A server whose state is that of the run of the records in the blocks of a journal, from that
-    /// of this handler. The first block of the journal is the preface: `OtherPreface` where it is
-    /// another. `Damaged` where a block has no records, where the handler takes a request of them
-    /// for none, or where a reply has another status than its record.
+    /// of this handler, or from the snapshot in the first block. The first block begins with the
+    /// preface: `OtherPreface` where it is another. `Damaged` where the first block or a snapshot
+    /// is none, where a block has no records, where the handler takes a request of them for none,
+    /// or where a reply has another status than its record.
     pub fn open(
         alloc: Global,
         handler: H,
         journal: J,
         preface: &[u8],
     ) -> Result<Kept<H, J>, KeptError>
-        ensures run { IfOk result (λ k. (blocks : List (List ℕ))
-            × IsRunOf (answer_step H.answers) handler blocks (held_by k)
+        ensures run { IfOk result (λ k. (start : Option Snapshot) × (blocks : List (List ℕ))
+            × IsRunOf (answer_step H.answers) H.loads handler start blocks (held_by k)
             × (J.is_clean (journal_of k) → J.has_so_far journal []
-            → J.has_read (journal_of k) (with_preface (is_new k) preface.now blocks))
-            × (is_new k ≡ true → blocks ≡ [])) }
-        ensures clean { IfOk result (λ k. J.is_clean (journal_of k) → J.is_clean journal) }
+            → J.has_read (journal_of k)
+            (with_first (is_new k) (first_block preface.now start) blocks))
+            × (is_new k ≡ true → (blocks ≡ []) × (start ≡ None))) }
         ensures empty { IfOk result (λ k. (held_by k).batch ≡ []) }
+        ensures clean { IfOk result (λ k. J.is_clean (journal_of k) → J.is_clean journal) }
         ensures preface { IfOk result (λ k. preface_of k ≡ preface.now) }
     {
         let mut kept = Kept {
@@ -62,6 +70,7 @@ impl<H: Handles + Drop, J: Keeps + Drop> Kept<H, J> {
             journal,
             preface: Vec::from_slice(alloc, preface)?,
             is_new: true,
+            base: 0,
             is_marked: false,
             batch: Vec::new(alloc),
             tokens: 0,
@@ -69,123 +78,6 @@ impl<H: Handles + Drop, J: Keeps + Drop> Kept<H, J> {
         };
         kept.replay()?;
         Ok(kept)
-    }
-
-    // Plays what the journal has: the first block has to be the preface, and the others have
-    // records.
-    fn replay(&mut self) -> Result<(), KeptError>
-        requires { is_new self.old ≡ true }
-        ensures played { OnOk result ((blocks : List (List ℕ))
-            × PlaysRecords (answer_step H.answers) (concat blocks) (held_by self.old) (held_by self.new)
-            × (J.is_clean (journal_of self.new) → J.has_so_far (journal_of self.old) []
-            → J.has_read (journal_of self.new)
-            (with_preface (is_new self.new) (preface_of self.old) blocks))
-            × (is_new self.new ≡ true → blocks ≡ [])) }
-        ensures batch { (held_by self.new).batch ≡ (held_by self.old).batch }
-        ensures preface { preface_of self.new ≡ preface_of self.old }
-        ensures clean { J.is_clean (journal_of self.new) → J.is_clean (journal_of self.old) }
-    {
-        if self.find_preface()? {
-            self.is_new = false;
-            self.play_blocks()?;
-        }
-        Ok(())
-    }
-
-    // Reads the first block of the journal, which has to be the preface. False where there is none.
-    fn find_preface(&mut self) -> Result<bool, KeptError>
-        ensures held { held_by self.new ≡ held_by self.old }
-        ensures stays { StaysAsKept self.old self.new }
-        ensures clean { J.is_clean (journal_of self.new) → J.is_clean (journal_of self.old) }
-        ensures found { IfOk result (λ found. J.is_clean (journal_of self.new)
-            → J.has_so_far (journal_of self.old) []
-            → (found ≡ true → J.has_so_far (journal_of self.new) (preface_of self.old ∷ []))
-            × (found ≡ false → J.has_read (journal_of self.new) [])) }
-    {
-        let Some(block) = self.next_block()? else {
-            return Ok(false);
-        };
-        if block.as_slice() == self.preface.as_slice() {
-            Ok(true)
-        } else {
-            Err(KeptError::OtherPreface)
-        }
-    }
-
-    // The next block of the journal; `None` where none follows.
-    fn next_block(&mut self) -> Result<Option<Vec<u8>>, KeptError>
-        ensures held { held_by self.new ≡ held_by self.old }
-        ensures stays { StaysAsKept self.old self.new }
-        ensures clean { J.is_clean (journal_of self.new) → J.is_clean (journal_of self.old) }
-        ensures read { IfOk result (λ block. J.is_clean (journal_of self.new)
-            → (blocks : List (List ℕ)) → J.has_so_far (journal_of self.old) blocks
-            → MatchOption block (J.has_read (journal_of self.new) blocks)
-            (λ b. J.has_so_far (journal_of self.new) (blocks ++ b.items ∷ []))) }
-    {
-        self.journal.next(self.alloc)
-    }
-
-    // Plays the blocks of the journal that weren't read yet.
-    fn play_blocks(&mut self) -> Result<(), KeptError>
-        ensures played { OnOk result ((blocks : List (List ℕ))
-            × PlaysRecords (answer_step H.answers) (concat blocks) (held_by self.old) (held_by self.new)
-            × (J.is_clean (journal_of self.new) → (before : List (List ℕ))
-            → J.has_so_far (journal_of self.old) before
-            → J.has_read (journal_of self.new) (before ++ blocks))) }
-        ensures stays { StaysAsKept self.old self.new }
-        ensures clean { J.is_clean (journal_of self.new) → J.is_clean (journal_of self.old) }
-    {
-        for _ in 0..u64::MAX {
-            let place = self.journal.place();
-            let Some(block) = self.next_block()? else {
-                return Ok(());
-            };
-            self.play_block(&block, place)?;
-        }
-        Err(KeptError::Disk)
-    }
-
-    // Plays the records of the block at this place.
-    fn play_block(&mut self, block: &[u8], place: usize) -> Result<(), KeptError>
-        ensures played { OnOk result
-            (PlaysRecords (answer_step H.answers) block.now (held_by self.old) (held_by self.new)) }
-        ensures stays { StaysAsKept self.old self.new }
-        ensures journal { journal_of self.new ≡ journal_of self.old }
-    {
-        let mut rest = block;
-        while !rest.is_empty() {
-            let Some((record, after)) = Record::read(rest) else {
-                return Err(KeptError::Damaged(place));
-            };
-            self.play(&record, place)?;
-            rest = after;
-        }
-        Ok(())
-    }
-
-    // Plays a record of the block at this place: the reply has to have the status that it had.
-    fn play(&mut self, record: &Record<'_>, place: usize) -> Result<(), KeptError>
-        requires { IsRecord record.now }
-        ensures played { OnOk result (PlaysRecords (answer_step H.answers) (record_bytes record.now)
-            (held_by self.old) (held_by self.new)) }
-        ensures stays { StaysAsKept self.old self.new }
-        ensures journal { journal_of self.new ≡ journal_of self.old }
-    {
-        let body = Bytes::copy_from_slice(self.alloc, record.body)?;
-        let request = record.request(&body);
-        let mut response = Response::new(self.alloc);
-        match self.handler.handle(&request, &mut response) {
-            Ok(_) => {}
-            Err(error) => return Err(refusal(error, place)),
-        }
-        if response.status.as_u16() != record.status {
-            return Err(KeptError::Damaged(place));
-        }
-        if !self.can_count(&request) {
-            return Err(KeptError::Damaged(place));
-        }
-        self.count(&request);
-        Ok(())
     }
 
     // Whether the token of a request can be counted.
@@ -241,23 +133,25 @@ impl<H: Handles + Drop, J: Keeps + Drop> Kept<H, J> {
     }
 
     /// Makes the journal ready for requests: drops what isn't whole. The first block of a new one
-    /// is the preface.
+    /// has the preface alone.
     pub fn begin(&mut self) -> Result<(), KeptError>
         ensures held { held_by self.new ≡ held_by self.old }
-        ensures preface { preface_of self.new ≡ preface_of self.old }
         ensures clean { J.is_clean (journal_of self.new) → J.is_clean (journal_of self.old) }
+        ensures preface { preface_of self.new ≡ preface_of self.old }
         ensures begun { OnOk result (is_new self.new ≡ false) }
         ensures first { is_new self.old ≡ true → OnOk result (J.is_clean (journal_of self.new)
             → J.has_read (journal_of self.old) []
-            → J.kept (journal_of self.new) (preface_of self.old ∷ [])) }
+            → J.kept (journal_of self.new) (first_block (preface_of self.old) None ∷ [])) }
         ensures again { is_new self.old ≡ false → OnOk result (J.is_clean (journal_of self.new)
             → (blocks : List (List ℕ)) → J.has_read (journal_of self.old) blocks
             → J.kept (journal_of self.new) blocks) }
     {
+        let first = plain_block(self.alloc, &self.preface)?;
         self.journal.begin()?;
         if self.is_new {
-            self.journal.keep(self.alloc, &self.preface)?;
+            self.journal.keep(self.alloc, &first)?;
             self.is_new = false;
+            self.base = self.journal.place();
         }
         Ok(())
     }
@@ -278,6 +172,7 @@ impl<H: Handles + Drop, J: Keeps + Drop> Kept<H, J> {
         ensures follows { OnOk result
             (RecordsFollow (answer_step H.answers) (held_by self.old) (held_by self.new)) }
         ensures stays { StaysInJournal self.old self.new }
+        ensures clean { J.is_clean (journal_of self.new) → J.is_clean (journal_of self.old) }
         ensures kept { (blocks : List (List ℕ)) → J.kept (journal_of self.old) blocks
             → J.kept (journal_of self.new) blocks }
     {
@@ -297,6 +192,7 @@ impl<H: Handles + Drop, J: Keeps + Drop> Kept<H, J> {
         ensures stays { StaysInJournal self.old self.new }
         ensures counts { IfOk result (λ b. IsTrue b
             → (held_by self.old).tokens + token_count request.now.token < 2 ^ 64) }
+        ensures clean { J.is_clean (journal_of self.new) → J.is_clean (journal_of self.old) }
         ensures kept { (blocks : List (List ℕ)) → J.kept (journal_of self.old) blocks
             → J.kept (journal_of self.new) blocks }
     {
@@ -346,6 +242,7 @@ impl<H: Handles + Drop, J: Keeps + Drop> Kept<H, J> {
     pub fn commit(&mut self) -> Result<(), KeptError>
         ensures held { OnOk result (held_by self.new ≡ committed (held_by self.old)) }
         ensures stays { StaysInJournal self.old self.new }
+        ensures clean { J.is_clean (journal_of self.new) → J.is_clean (journal_of self.old) }
         ensures kept { OnOk result ((blocks : List (List ℕ)) → J.kept (journal_of self.old) blocks
             → J.kept (journal_of self.new) (with_batch blocks (held_by self.old).batch)) }
         ensures nothing { (held_by self.old).batch ≡ []
@@ -367,6 +264,7 @@ impl<H: Handles + Drop, J: Keeps + Drop> Kept<H, J> {
     pub fn keep_mark(&mut self) -> Result<(), KeptError>
         ensures held { held_by self.new ≡ held_by self.old }
         ensures stays { StaysInJournal self.old self.new }
+        ensures clean { J.is_clean (journal_of self.new) → J.is_clean (journal_of self.old) }
         ensures kept { OnOk result ((blocks : List (List ℕ)) → J.kept (journal_of self.old) blocks
             → J.kept (journal_of self.new) blocks) }
     {
@@ -384,6 +282,15 @@ impl<H: Handles + Drop, J: Keeps + Drop> Kept<H, J> {
     {
         let Kept { journal, .. } = self;
         journal
+    }
+
+    /// Whether the journal is to begin anew: its blocks take more than so many bytes, and more than
+    /// twice what they took when a snapshot was last made or tried.
+    pub fn is_long(&self, least: usize) -> bool
+        ensures { IsTrue result ↔ (least < J.ends_at (journal_of self.now))
+            × (2 * base_of self.now < J.ends_at (journal_of self.now)) }
+    {
+        is_due(self.journal.place(), self.base, least)
     }
 
     /// How many of all records have a token.

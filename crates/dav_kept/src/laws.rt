@@ -9,16 +9,17 @@ pub fn bytes_have_one_reading()
     ensures { OneReading }
 {}
 
-/// From its first day on, after each answer, each commit and each restart, the state of a server is
-/// that of the run of the records in its journal and in its batch.
+/// From its first day on, after each answer, each commit, each snapshot and each restart, the state
+/// of a server is that of the run of all its records: of those that the snapshot stands for, of
+/// those in its journal and of those in its batch.
 pub fn lives_are_runs<H: Handles>()
-    ensures { LivesAreRuns H.answers }
+    ensures { LivesAreRuns H.answers H.saved H.is_saveable H.loads }
 {}
 
-/// A restart over the same blocks runs the same records; where each answer is determined, it gives
-/// the same state.
+/// A restart over the same snapshot and blocks runs the same records; where each answer and each
+/// load is determined, it gives the same state.
 pub fn runs_are_one<H: Handles>()
-    ensures { RunsAreOne H.answers }
+    ensures { RunsAreOne H.answers H.loads }
 {}
 
 /// A request that left the state needs no record: the run without it gives the same state.

@@ -3,6 +3,7 @@
 #![tactic(auto)]
 
 mod error;
+mod former;
 mod handler;
 mod journal;
 mod kept;
@@ -13,7 +14,8 @@ mod record;
 mod tests;
 
 pub use error::{HandleError, KeptError};
+pub use former::adopt;
 pub use handler::{Effect, Handles};
 pub use journal::Keeps;
-pub use kept::Kept;
+pub use kept::{Kept, is_due};
 pub use record::{Record, Request};

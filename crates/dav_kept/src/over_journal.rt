@@ -1,35 +1,34 @@
-//! A journal of dav_journal keeps blocks.
-ghost use Rattle.dav_journal.specs.Journal.{HasRead, IsClean, IsKept, IsReading, blocks_end, disk_of, file_of};
+//! A pair of journals of dav_journal keeps blocks.
+ghost use Rattle.dav_journal.specs.Journal.{blocks_end, file_of};
+ghost use Rattle.dav_journal.specs.Pair.{HasReadPair, IsCleanPair, IsKeptPair, IsReadingPair, PairLeaves, counting};
 ghost use Rattle.sqlite_disk.specs.Disk.{Holds};
-ghost use Rattle.dav_journal.specs.File.{Recovers};
 ghost use Rattle.dav_journal.proofs.BlockLemmas.{rests_recovers};
-ghost use Rattle.std.proofs.Common.{inl};
-ghost use Rattle.std.specs.Prelude.{◌⊎◌, ℕ, List};
+ghost use Rattle.dav_journal.proofs.PairLemmas.{pair_alone};
+ghost use Rattle.std.proofs.Common.{inl, inr};
 
 use crate::error::KeptError;
 use crate::journal::Keeps;
-use dav_journal::{Journal, JournalError};
+use dav_journal::{JournalError, Pair};
 use sqlite_disk::Disk;
 use std::alloc::Global;
 
-impl<D: Disk + Drop> Keeps for Journal<D> {
-    ghost is_clean = { λ j. IsClean D.Disk j };
+impl<D: Disk + Drop> Keeps for Pair<D> {
+    ghost is_clean = { λ p. IsCleanPair D.Disk p };
 
-    ghost has_so_far = { λ j blocks. IsReading D.Disk j blocks };
+    ghost has_so_far = { λ p blocks. IsReadingPair D.Disk p blocks };
 
-    ghost has_read = { λ j blocks. HasRead D.Disk j blocks };
+    ghost has_read = { λ p blocks. HasReadPair D.Disk p blocks };
 
-    ghost kept = { λ j blocks. IsKept D.Disk j blocks };
+    ghost kept = { λ p blocks. IsKeptPair D.Disk p blocks };
 
-    ghost ends_at = { λ j. blocks_end j };
+    ghost ends_at = { λ p. blocks_end (counting p) };
 
-    ghost has_bytes = { λ j at bytes. Holds (file_of D.Disk j) at bytes };
+    ghost has_bytes = { λ p at bytes. Holds (file_of D.Disk (counting p)) at bytes };
 
-    ghost leaves = { λ j one other. (c : List ℕ) → D.Disk.may_leave (disk_of j) c
-        → Recovers c one ⊎ Recovers c other };
+    ghost leaves = { λ p one other. PairLeaves D.Disk p one other };
 
     fn next(&mut self, alloc: Global) -> Result<Option<Vec<u8>>, KeptError> {
-        Ok(Journal::next(self, alloc)?)
+        Ok(Pair::next(self, alloc)?)
     }
 
     fn place(&self) -> usize {
@@ -37,11 +36,11 @@ impl<D: Disk + Drop> Keeps for Journal<D> {
     }
 
     fn rest(&mut self) -> Result<usize, KeptError> {
-        Ok(Journal::rest(self)?)
+        Ok(Pair::rest(self)?)
     }
 
     fn read(&mut self, at: usize, piece: &mut [u8]) -> Result<(), KeptError> {
-        Ok(Journal::read(self, at, piece)?)
+        Ok(Pair::read(self, at, piece)?)
     }
 
     fn begin(&mut self) -> Result<(), KeptError> {
@@ -49,7 +48,7 @@ impl<D: Disk + Drop> Keeps for Journal<D> {
     }
 
     fn room(&mut self, size: usize) -> Result<bool, KeptError> {
-        match Journal::room(self, size) {
+        match Pair::room(self, size) {
             Ok(()) => Ok(true),
             Err(JournalError::NoRoom) => Ok(false),
             Err(error) => Err(error.into()),
@@ -57,13 +56,31 @@ impl<D: Disk + Drop> Keeps for Journal<D> {
     }
 
     fn keep(&mut self, alloc: Global, block: &[u8]) -> Result<(), KeptError> {
-        Ok(Journal::keep(self, alloc, block)?)
+        Ok(Pair::keep(self, alloc, block)?)
+    }
+
+    fn room_to_renew(&mut self, size: usize) -> Result<bool, KeptError> {
+        match Pair::room_to_renew(self, size) {
+            Ok(()) => Ok(true),
+            Err(JournalError::NoRoom) => Ok(false),
+            Err(error) => Err(error.into()),
+        }
+    }
+
+    fn renew(&mut self, alloc: Global, block: &[u8]) -> Result<(), KeptError> {
+        Ok(Pair::renew(self, alloc, block)?)
     }
 
     fn keep_mark(&mut self) -> Result<(), KeptError> {
-        Ok(Journal::keep_mark(self)?)
+        Ok(Pair::keep_mark(self)?)
     }
 
-    ghost kept_is_left = { λ j blocks kept c may.
-        inl (rests_recovers _ _ _ _ _ kept.small (kept.outcomes c may)) };
+    ghost kept_is_left = { λ p blocks others kept. (
+      (λ c d may might. inl (pair_alone c d _ blocks kept.small
+          (rests_recovers _ _ _ _ _ kept.kept.small (kept.kept.outcomes c may))
+          (rests_recovers _ _ _ _ _ kept.spare.small (kept.spare.outcomes d might)))),
+      (λ c d may might. inr (pair_alone c d _ blocks kept.small
+          (rests_recovers _ _ _ _ _ kept.kept.small (kept.kept.outcomes c may))
+          (rests_recovers _ _ _ _ _ kept.spare.small (kept.spare.outcomes d might)))),
+    ) };
 }

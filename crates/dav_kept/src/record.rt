@@ -73,7 +73,7 @@ impl<'a> Model for Record<'a> {
 }
 
 // Adds a text, with its length.
-fn put(out: &mut Vec<u8>, bytes: &[u8]) -> Result<(), AllocError>
+pub fn put(out: &mut Vec<u8>, bytes: &[u8]) -> Result<(), AllocError>
     ensures { OnOk result (out.new.items ≡ out.old.items ++ sized_bytes bytes.now) }
 {
     out.extend_from_slice(&(bytes.len() as u64).to_be_bytes())?;
@@ -117,8 +117,16 @@ fn status_of(bytes: &[u8]) -> u16
     }
 }
 
+// The number at the start of bytes, and what follows it.
+pub fn number_in(bytes: &[u8]) -> Option<(u64, &[u8])>
+    ensures { IfSome result (λ p. bytes.now ≡ to_be_bytes w64 p.0 ++ p.1.now) }
+{
+    let front = bytes.get(..8)?;
+    Some((number(front), bytes.get(8..)?))
+}
+
 // The text at the start of bytes, and what follows it.
-fn taken(bytes: &[u8]) -> Option<(&[u8], &[u8])>
+pub fn taken(bytes: &[u8]) -> Option<(&[u8], &[u8])>
     ensures fits { IfSome result (λ p. length p.0.now < 2 ^ 64) }
     ensures taken { MatchOption result
         ((text rest : List ℕ) → length text < 2 ^ 64 → bytes.now ≢ sized_bytes text ++ rest)

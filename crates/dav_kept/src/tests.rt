@@ -1,153 +1,132 @@
-//! Records as bytes, and lives of a server over a disk in memory.
-ghost use Rattle.std.specs.Prelude.{⊤};
+//! Lives of a server over a disk in memory.
+ghost use Rattle.std.specs.Prelude.{◌≡◌, ⊤, ℕ, List};
 
 use crate::error::{HandleError, KeptError};
+use crate::former::adopt;
 use crate::handler::{Effect, Handles};
 use crate::journal::Keeps;
-use crate::kept::Kept;
-use crate::record::{Record, Request};
+use crate::kept::{Kept, is_due};
+use crate::record::Request;
 use bytes::Bytes;
-use dav_journal::Journal;
+use dav_journal::Pair;
 use http::StatusCode;
 use http_server::Response;
-use sqlite_disk::Memory;
+use sqlite_disk::{Disk, Memory};
 use std::alloc::{AllocError, Global};
+use std::marker::Model;
 use std::process::Abort;
 use std::test::Fail;
 
-/// Moment, status, principal, token, head and body; `-` is a text that is missing, `.` one without
-/// bytes.
-const RECORDS: &str = "
-1 201 - - GET . -> 0000000000000001 00c9 00 00 0000000000000003 474554 0000000000000000
-1735689600 204 ann - . xy -> 0000000067748580 00cc 01 0000000000000003 616e6e 00 0000000000000000 0000000000000002 7879
-0 65535 . é A B -> 0000000000000000 ffff 01 0000000000000000 01 0000000000000002 c3a9 0000000000000001 41 0000000000000001 42
-18446744073709551615 0 - t . . -> ffffffffffffffff 0000 00 01 0000000000000001 74 0000000000000000 0000000000000000
-";
+mod records;
+mod room;
 
-/// Bytes that begin with no record: too few, a text that is neither missing nor there, one that
-/// isn't UTF-8, one that ends early.
-const NONE: &str = "
-00000000000000
-0000000000000001 00c9 00 00 0000000000000003 474554 00000000000000
-0000000000000001 00c9 02 00 0000000000000000 0000000000000000
-0000000000000001 00c9 01 0000000000000001 ff 00 0000000000000000 0000000000000000
-0000000000000001 00c9 00 00 0000000000000004 474554 0000000000000000
-0000000000000001 00c9 00 00 ffffffffffffffff 474554 0000000000000000
-";
+use records::{bytes_in, word_at};
 
-/// What a server does, and then the heads of its state, its tokens and its latest moment. The first
-/// request comes in second 1, and each other a second after the one before: `+x` changes the state,
-/// `*x` too and has a token, `-x` leaves it, and with `?` in front it is to be answered as one that
-/// only reads. With `restart` it ends and starts again.
+/// What a server does, and then the heads of its state, its tokens, its latest moment, and how many
+/// snapshots it made. The first request comes in second 1, and each other a second after the one
+/// before: `+x` changes the state, `*x` too and has a token, `-x` leaves it, and with `?` in front it
+/// is to be answered as one that only reads. With `restart` it ends and starts again; with `204` it
+/// answers changes so from then on; with `due` it makes a snapshot where the journal is long enough. A
+/// state with a `!` can't be saved.
 const LIVES: &str = "
-restart -> . 0 0
-+a commit restart -> a 0 1
-+a restart -> . 0 0
-+a commit +b restart -> a 0 1
-+a -b commit restart -> a 0 1
--a -b -> . 0 0
-+a *b +c commit *d -e commit restart -> abcd 2 4
-*a commit restart *b commit restart *c commit restart -> abc 3 3
-+a commit commit restart +b mark commit mark mark restart -> ab 0 2
--a ?-b +c ?-d commit restart -> c 0 3
+restart -> . 0 0 0
++a commit restart -> a 0 1 0
++a restart -> . 0 0 0
++a commit +b restart -> a 0 1 0
++a -b commit restart -> a 0 1 0
+-a -b -> . 0 0 0
++a *b +c commit *d -e commit restart -> abcd 2 4 0
+*a commit restart *b commit restart *c commit restart -> abc 3 3 0
++a commit commit restart +b mark commit mark mark restart -> ab 0 2 0
+-a ?-b +c ?-d commit restart -> c 0 3 0
 +a ?+b -> Changed
 +none -> Malformed
 +a commit 204 restart -> Damaged
-204 restart +a commit restart -> a 0 1
+204 restart +a commit restart -> a 0 1 0
 /b restart -> OtherPreface
 ";
 
-// The bytes of a text of two digits each, with base 16.
-fn bytes_in(alloc: Global, text: &str) -> Result<Vec<u8>, Fail> {
-    let mut bytes = Vec::new(alloc);
-    let mut high = None;
-    for c in text.chars() {
-        let Some(digit) = c.to_digit(16) else {
-            continue;
-        };
-        match high {
-            None => high = Some(digit),
-            Some(first) => {
-                bytes.push(u8::try_from(first << 4 | digit).unwrap_or(0))?;
-                high = None;
-            }
-        }
-    }
-    Ok(bytes)
-}
+/// The same, with snapshots.
+const SNAPSHOTS: &str = "
+snap restart -> . 0 0 1
++a *b snap restart -> ab 1 2 1
++a *b snap *c -d commit restart -> abc 2 3 1
++a snap +b restart -> a 0 1 1
++a commit due -> a 0 1 0
++a commit +b commit due restart due -> ab 0 2 1
++a commit +b commit restart due due -> ab 0 2 1
++a commit snap snap restart snap +b commit snap restart +c commit restart -> abc 0 3 4
++a ?-b snap ?-c mark snap mark restart -> a 0 1 2
++a snap ?+b -> Changed
++a snap 204 restart +b commit restart -> ab 0 2 1
++a snap +b commit 204 restart -> Damaged
++a snap /b restart -> OtherPreface
++a +! snap restart -> a! 0 2 0
++a commit +! commit due due restart due -> a! 0 2 0
++a snap +! snap restart -> a! 0 2 1
+";
 
-// A text of a row that may be missing.
-fn option_in(word: &str) -> Option<&str> {
-    match word {
-        "-" => None,
-        "." => Some(""),
-        _ => Some(word),
-    }
-}
+/// The first block of a journal, and what a server over it has. It begins with the preface, which is
+/// `/`, as a text with its length; a snapshot has two numbers and a state.
+const FIRSTS: &str = "
+0000000000000001 2f -> . 0 0 0
+0000000000000001 2f 0000000000000002 0000000000000007 6162 -> ab 2 7 0
+0000000000000001 2f 0000000000000000 0000000000000000 -> . 0 0 0
+0000000000000001 2f ffffffffffffffff ffffffffffffffff 61 -> a 18446744073709551615 18446744073709551615 0
+0000000000000001 2f 00 -> Damaged
+0000000000000001 2f 0000000000000002 00000000000007 -> Damaged
+0000000000000001 2f 0000000000000002 0000000000000007 6121 -> Damaged
+0000000000000001 61 -> OtherPreface
+0000000000000002 2f61 -> OtherPreface
+0000000000000000 -> OtherPreface
+0000000000000002 2f -> Damaged
+ffffffffffffffff 2f -> Damaged
+00000000000000 -> Damaged
+. -> Damaged
+";
 
-// A text of a row.
-fn text_in(word: &str) -> &[u8] {
-    option_in(word).unwrap_or("").as_bytes()
-}
+/// The state that a server of before wrote, with a PUT of a file: one file whose first block is the
+/// preface alone. Its marks are left out, since a disk in memory has none.
+const FORMER: &str = "
+76756c6461726732774abc87a534a416
+88b543785acb5be9
+000000000000000000000000000000000000000000000000000000000000000000000000000000000000000000000000
+010000000000000001fffffffffffffffe0000000000000000ffffffffffffffff0374d0d3b09dfc9dcb30cdf559dd0e
+7c
+2f
+01000000000000005effffffffffffffa10000000000000015ffffffffffffffea2157fa85f8a6b9de6cb43c9ba1eb75
+5b
+000000003b99788000c90000000000000000003e505554202f6f6c6420485454502f312e310d0a486f73743a206c6f63
+616c686f73743a343931380d0a436f6e74656e742d4c656e6774683a20340d0a0d0a00000000000000046b657074
+00
+";
 
-// A word of a row.
-fn word_at(row: &str, place: usize) -> &str {
-    row.split(' ').nth(place).unwrap_or("-")
-}
-
-// The record of a row, as bytes.
-fn record_bytes(alloc: Global, row: &str) -> Result<Vec<u8>, Fail> {
-    let moment = word_at(row, 0).parse::<u64>()?;
-    let status = word_at(row, 1).parse::<u16>()?;
-    let (principal, token) = (word_at(row, 2), word_at(row, 3));
-    let (head, body) = (word_at(row, 4), word_at(row, 5));
-    let body = Bytes::copy_from_slice(alloc, text_in(body))?;
-    let request = Request {
-        moment,
-        principal: option_in(principal),
-        token: option_in(token),
-        head: text_in(head),
-        body: &body,
-    };
-    let mut bytes = Vec::new(alloc);
-    request.record(status).write(&mut bytes)?;
-    if bytes.len() > request.size() {
-        return Err(Fail::new("the size is too small"));
-    }
-    Ok(bytes)
-}
-
-#[test]
-fn records_are_these_bytes(rt: HostRuntime) -> Result<(), Fail> {
-    let alloc = rt.alloc();
-    for row in RECORDS.trim().lines() {
-        let Some((record, expected)) = row.split_once(" -> ") else {
-            return Err(Fail::new("a row without an arrow"));
-        };
-        let expected = bytes_in(alloc, expected)?;
-        let mut bytes = record_bytes(alloc, record)?;
-        assert_eq!(rt; bytes.as_slice(), expected.as_slice(), "{row}");
-        bytes.extend_from_slice(b"rest")?;
-        let Some((read, rest)) = Record::read(&bytes) else {
-            return Err(Fail::new("a record that isn't read"));
-        };
-        let mut again = Vec::new(alloc);
-        read.write(&mut again)?;
-        assert_eq!(rt; again.as_slice(), expected.as_slice(), "{row}");
-        assert_eq!(rt; rest, b"rest".as_slice(), "{row}");
-    }
-    for row in NONE.trim().lines() {
-        let bytes = bytes_in(alloc, row)?;
-        assert!(rt; Record::read(&bytes).is_none(), "{row}");
-    }
-    Ok(())
-}
+/// How many bytes a journal's blocks take, how many they took at the last snapshot, how many are the
+/// least for one, and whether it is to begin anew.
+const DUE: &str = "
+0 0 0 -> false
+1 0 0 -> true
+64 0 64 -> false
+65 0 64 -> true
+200 100 64 -> false
+201 100 64 -> true
+201 100 201 -> false
+5 9 0 -> false
+18446744073709551615 9223372036854775807 67108864 -> true
+18446744073709551615 9223372036854775808 67108864 -> false
+";
 
 // The heads of the requests that had a body, which are answered with a status of one's own.
 #[derive(Drop)]
-struct Heads {
-    heads: Vec<u8>,
-    made: StatusCode,
+pub struct Heads {
+    pub heads: Vec<u8>,
+    pub made: StatusCode,
+}
+
+impl Model for Heads {
+    ghost Value = { List ℕ };
+
+    ghost view = { λ h. h.heads.items };
 }
 
 impl Handles for Heads {
@@ -168,16 +147,38 @@ impl Handles for Heads {
         response.status = self.made;
         Ok(Effect::Changed)
     }
+
+    ghost saved = { λ heads. heads };
+
+    ghost is_saveable = { λ heads. ⊤ };
+
+    ghost loads = { λ old bytes new. new ≡ bytes };
+
+    ghost loads_what_was_saved = { λ first state loaded records run can is. is };
+
+    fn save(&self, out: &mut Vec<u8>) -> Result<bool, HandleError> {
+        out.extend_from_slice(&self.heads)?;
+        Ok(!self.heads.contains(&b'!'))
+    }
+
+    fn load(&mut self, bytes: &[u8]) -> Result<(), HandleError> {
+        if bytes.contains(&b'!') {
+            return Err(HandleError::Malformed);
+        }
+        self.heads.clear();
+        self.heads.extend_from_slice(bytes)?;
+        Ok(())
+    }
 }
 
 // A server over a journal, at `/b` where it moves there, or else at `/`.
 fn start(
     alloc: Global,
-    mut journal: Journal<Memory>,
+    mut journal: Pair<Memory>,
     made: StatusCode,
     moves: bool,
-) -> Result<Kept<Heads, Journal<Memory>>, KeptError> {
-    journal.open()?;
+) -> Result<Kept<Heads, Pair<Memory>>, KeptError> {
+    journal.open(alloc)?;
     let heads = Heads {
         heads: Vec::new(alloc),
         made,
@@ -211,7 +212,7 @@ fn token_of(word: &str) -> Option<&'static str> {
 }
 
 // Asks a request of a word, which comes at this moment.
-fn ask<J: Keeps + Drop>(
+pub fn ask<J: Keeps + Drop>(
     alloc: Global,
     kept: &mut Kept<Heads, J>,
     word: &str,
@@ -237,14 +238,28 @@ fn ask<J: Keeps + Drop>(
     Ok(None)
 }
 
+// Two empty files.
+fn files(alloc: Global) -> Pair<Memory> {
+    Pair::new(Memory::new(alloc), Memory::new(alloc))
+}
+
+// What a server became: itself, and how many snapshots it made.
+type Lived = Result<(Kept<Heads, Pair<Memory>>, usize), KeptError>;
+
 // Lives a row.
-fn live(alloc: Global, row: &str) -> Result<Kept<Heads, Journal<Memory>>, KeptError> {
+fn live(alloc: Global, row: &str) -> Lived {
     let (mut made, mut moves, mut moment) = (StatusCode::CREATED, false, 0u64);
-    let mut kept = start(alloc, Journal::new(Memory::new(alloc)), made, moves)?;
+    let mut snapshots = 0usize;
+    let mut kept = start(alloc, files(alloc), made, moves)?;
     for word in row.split(' ') {
         match word {
             "commit" => kept.commit()?,
             "mark" => kept.keep_mark()?,
+            "snap" | "due" => {
+                if (word == "snap" || kept.is_long(0)) && kept.snapshot()? {
+                    snapshots = snapshots.saturating_add(1);
+                }
+            }
             "204" => made = StatusCode::NO_CONTENT,
             "/b" => moves = true,
             "restart" => kept = start(alloc, kept.end(), made, moves)?,
@@ -254,16 +269,13 @@ fn live(alloc: Global, row: &str) -> Result<Kept<Heads, Journal<Memory>>, KeptEr
             }
         }
     }
-    Ok(kept)
+    Ok((kept, snapshots))
 }
 
-// What a server became: its heads, its tokens and its latest moment; or why it ended.
-fn outcome(
-    alloc: Global,
-    lived: Result<Kept<Heads, Journal<Memory>>, KeptError>,
-) -> Result<String, Fail> {
+// What a server became, as a row has it; or why it ended.
+fn outcome(alloc: Global, lived: Lived) -> Result<String, Fail> {
     match lived {
-        Ok(kept) => {
+        Ok((kept, snapshots)) => {
             let heads = String::from_utf8(kept.handler().heads.clone()?)?;
             let heads = if heads.is_empty() {
                 "."
@@ -271,16 +283,15 @@ fn outcome(
                 heads.as_str()
             };
             let (tokens, latest) = (kept.tokens(), kept.latest());
-            Ok(format!(in alloc; "{heads} {tokens} {latest}")?)
+            Ok(format!(in alloc; "{heads} {tokens} {latest} {snapshots}")?)
         }
         Err(error) => Ok(format!(in alloc; "{error}")?),
     }
 }
 
-#[test]
-fn lives_give_these_states(rt: HostRuntime) -> Result<(), Fail> {
-    let alloc = rt.alloc();
-    for row in LIVES.trim().lines() {
+// Lives each row of a text.
+fn assert_lives(rt: &impl Abort, alloc: Global, rows: &str) -> Result<(), Fail> {
+    for row in rows.trim().lines() {
         let Some((life, expected)) = row.split_once(" -> ") else {
             return Err(Fail::new("a row without an arrow"));
         };
@@ -290,70 +301,72 @@ fn lives_give_these_states(rt: HostRuntime) -> Result<(), Fail> {
     Ok(())
 }
 
-// What has no room for a block.
-#[derive(Drop)]
-struct Full;
-
-impl Keeps for Full {
-    ghost is_clean = { λ j. ⊤ };
-
-    ghost has_so_far = { λ j blocks. ⊤ };
-
-    ghost has_read = { λ j blocks. ⊤ };
-
-    ghost kept = { λ j blocks. ⊤ };
-
-    ghost ends_at = { λ j. 0 };
-
-    ghost has_bytes = { λ j at bytes. ⊤ };
-
-    ghost leaves = { λ j one other. ⊤ };
-
-    fn next(&mut self, _alloc: Global) -> Result<Option<Vec<u8>>, KeptError> {
-        Ok(None)
-    }
-
-    fn place(&self) -> usize {
-        0
-    }
-
-    fn rest(&mut self) -> Result<usize, KeptError> {
-        Ok(0)
-    }
-
-    fn read(&mut self, _at: usize, _piece: &mut [u8]) -> Result<(), KeptError> {
-        Ok(())
-    }
-
-    fn begin(&mut self) -> Result<(), KeptError> {
-        Ok(())
-    }
-
-    fn room(&mut self, _size: usize) -> Result<bool, KeptError> {
-        Ok(false)
-    }
-
-    fn keep(&mut self, _alloc: Global, _block: &[u8]) -> Result<(), KeptError> {
-        Ok(())
-    }
-
-    fn keep_mark(&mut self) -> Result<(), KeptError> {
-        Ok(())
-    }
-
-    ghost kept_is_left = { λ j blocks kept. kept };
+#[test]
+fn lives_give_these_states(rt: HostRuntime) -> Result<(), Fail> {
+    assert_lives(&rt, rt.alloc(), LIVES)
 }
 
 #[test]
-fn without_room_nothing_is_done(rt: HostRuntime) -> Result<(), Fail> {
+fn lives_with_snapshots_give_these_states(rt: HostRuntime) -> Result<(), Fail> {
+    assert_lives(&rt, rt.alloc(), SNAPSHOTS)
+}
+
+// Two files with one block of these bytes.
+fn files_with(alloc: Global, block: &[u8]) -> Result<Pair<Memory>, KeptError> {
+    let mut pair = files(alloc);
+    pair.open(alloc)?;
+    Keeps::next(&mut pair, alloc)?;
+    pair.cut()?;
+    Keeps::keep(&mut pair, alloc, block)?;
+    Ok(pair)
+}
+
+// A server over a first block.
+fn begin(alloc: Global, block: &[u8]) -> Lived {
+    let kept = start(alloc, files_with(alloc, block)?, StatusCode::CREATED, false)?;
+    Ok((kept, 0))
+}
+
+/// A journal of before is taken over, once.
+#[test]
+fn a_journal_of_before_is_taken_over(rt: HostRuntime) -> Result<(), Fail> {
     let alloc = rt.alloc();
-    let heads = Heads {
-        heads: Vec::new(alloc),
-        made: StatusCode::CREATED,
-    };
-    let mut kept = Kept::open(alloc, heads, Full, b"/")?;
-    kept.begin()?;
-    assert!(rt; ask(alloc, &mut kept, "+a", 1)?.is_none());
-    assert!(rt; kept.handler().heads.is_empty());
+    let head = "PUT /old HTTP/1.1\r\nHost: localhost:4918\r\nContent-Length: 4\r\n\r\n";
+    let mut disk = Memory::new(alloc);
+    disk.write_at(0, &bytes_in(alloc, FORMER)?)?;
+    disk.sync()?;
+    let mut pair = Pair::new(disk, Memory::new(alloc));
+    assert!(rt; adopt(alloc, &mut pair, b"/")?);
+    assert!(rt; !adopt(alloc, &mut pair, b"/")?);
+    let kept = start(alloc, pair, StatusCode::CREATED, false)?;
+    assert_eq!(rt; kept.handler().heads.as_slice(), head.as_bytes());
+    assert_eq!(rt; (kept.tokens(), kept.latest()), (0, 999_913_600));
+    Ok(())
+}
+
+#[test]
+fn a_long_journal_is_to_begin_anew(rt: HostRuntime) -> Result<(), Fail> {
+    for row in DUE.trim().lines() {
+        let Some((sizes, expected)) = row.split_once(" -> ") else {
+            return Err(Fail::new("a row without an arrow"));
+        };
+        let size = word_at(sizes, 0).parse::<usize>()?;
+        let base = word_at(sizes, 1).parse::<usize>()?;
+        let least = word_at(sizes, 2).parse::<usize>()?;
+        assert_eq!(rt; is_due(size, base, least), expected == "true", "{row}");
+    }
+    Ok(())
+}
+
+#[test]
+fn first_blocks_give_these_states(rt: HostRuntime) -> Result<(), Fail> {
+    let alloc = rt.alloc();
+    for row in FIRSTS.trim().lines() {
+        let Some((block, expected)) = row.split_once(" -> ") else {
+            return Err(Fail::new("a row without an arrow"));
+        };
+        let found = outcome(alloc, begin(alloc, &bytes_in(alloc, block)?))?;
+        assert_eq!(rt; found.as_str(), expected, "{row}");
+    }
     Ok(())
 }

@@ -3,6 +3,7 @@ mod TokenLemmas
 mod HostLemmas
 mod OneAnswer
 mod MachineRuns
+pub mod SavedRuns
 pub mod ServingLemmas
 pub mod TurnRuns
 pub mod LifePromises

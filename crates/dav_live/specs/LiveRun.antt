@@ -2,8 +2,9 @@
 use Rattle.std.specs.Prelude.{ℕ, List, Option}
 use Rattle.http_server.specs.declared.response.Response.{Response}
 use Rattle.sqlite_disk.specs.declared.Disk.{Ghosts}
-use Rattle.dav_journal.specs.Journal.{IsKept}
-use Rattle.dav_journal.specs.declared.journal.Journal.{Journal}
+use Rattle.dav_journal.specs.Pair.{IsCleanPair, IsKeptPair}
+use Rattle.dav_journal.specs.declared.pair.Pair.{Pair}
+use Rattle.dav_http.specs.Saved.{IsSaveable, saved_bytes}
 use Rattle.dav_kept.specs.declared.kept.Kept.{Kept}
 use Rattle.dav_server.specs.Server.{Server}
 use Rattle.dav_turns.specs.Connections.{TurnsView}
@@ -20,21 +21,21 @@ abbrev pub turns_of : {D : Type 0} → Live D → TurnsView
 turns_of l = l.turns
 
 -- what answers their requests: the machine, with its journal
-abbrev pub service_of : {D : Type 0} → Live D → Service Server (Journal D)
+abbrev pub service_of : {D : Type 0} → Live D → Service Server (Pair D)
 service_of l = l.service
 
 -- its server, with the journal
-abbrev pub kept_in : {D : Type 0} → Live D → Kept Server (Journal D)
+abbrev pub kept_in : {D : Type 0} → Live D → Kept Server (Pair D)
 kept_in l = kept_of (service_of l)
 
 -- what it does as a keeper: it answers as the machine does, and keeps that in its journal
-abbrev pub doing : {D : Type 0} → Ghosts D → Keeping (Service Server (Journal D))
+abbrev pub doing : {D : Type 0} → Ghosts D → Keeping (Service Server (Pair D))
 doing {D} g =
-    keeping (λ (old : Service Server (Journal D)) (head : List ℕ) (verdict : Option Rejection) (new : Service Server (Journal D)). StaysAll old new)
-    (λ (old : Service Server (Journal D)) (asked : Asked) (sent : Response) (new : Service Server (Journal D)). Serves IsAnswer (λ j blocks. IsKept g j blocks) old asked sent new)
-    (λ (old : Service Server (Journal D)) (bytes : List ℕ) (new : Service Server (Journal D)). IsGreeted old bytes new)
-    (λ (old : Service Server (Journal D)) (bytes : List ℕ) (new : Service Server (Journal D)). IsListed old bytes new)
-    (λ (old : Service Server (Journal D)) (address : List ℕ) (new : Service Server (Journal D)). StaysAll old new)
-    (λ (old : Service Server (Journal D)) (seconds : ℕ) (new : Service Server (Journal D)). IsPassed IsAnswer (λ j blocks. IsKept g j blocks) (λ (s : Server) (now : ℕ) (head : Option (List ℕ)). IsNextEnd s.state.locks now head) old seconds new)
-    (λ (old new : Service Server (Journal D)). IsMarked (λ j blocks. IsKept g j blocks) old new)
-    (λ (old new : Service Server (Journal D)). IsCommitted (λ j blocks. IsKept g j blocks) old new)
+    keeping (λ (old : Service Server (Pair D)) (head : List ℕ) (verdict : Option Rejection) (new : Service Server (Pair D)). StaysAll old new)
+    (λ (old : Service Server (Pair D)) (asked : Asked) (sent : Response) (new : Service Server (Pair D)). Serves IsAnswer (λ j. IsCleanPair g j) (λ j blocks. IsKeptPair g j blocks) old asked sent new)
+    (λ (old : Service Server (Pair D)) (bytes : List ℕ) (new : Service Server (Pair D)). IsGreeted old bytes new)
+    (λ (old : Service Server (Pair D)) (bytes : List ℕ) (new : Service Server (Pair D)). IsListed old bytes new)
+    (λ (old : Service Server (Pair D)) (address : List ℕ) (new : Service Server (Pair D)). StaysAll old new)
+    (λ (old : Service Server (Pair D)) (seconds : ℕ) (new : Service Server (Pair D)). IsPassed IsAnswer (λ j. IsCleanPair g j) (λ j blocks. IsKeptPair g j blocks) (λ (s : Server) (now : ℕ) (head : Option (List ℕ)). IsNextEnd s.state.locks now head) old seconds new)
+    (λ (old new : Service Server (Pair D)). IsMarked saved_bytes IsSaveable (λ j. IsCleanPair g j) (λ j blocks. IsKeptPair g j blocks) old new)
+    (λ (old new : Service Server (Pair D)). IsCommitted (λ j. IsCleanPair g j) (λ j blocks. IsKeptPair g j blocks) old new)

@@ -1,5 +1,5 @@
 -- How a live server answers requests and hears its front, and what of that is kept.
-use Rattle.std.specs.Prelude.{◌≡◌, ◌≢◌, ◌≤◌, ◌⊎◌, ℕ, List, [], ◌∷◌, ◌++◌, Option, Some, None, codes, max, min}
+use Rattle.std.specs.Prelude.{◌≡◌, ◌≢◌, ◌≤◌, ◌⊎◌, ℕ, Bool, IsTrue, List, [], ◌∷◌, ◌++◌, Option, Some, None, codes, max, min}
 use Rattle.http_server.specs.declared.response.Response.{Response}
 use Rattle.http_server.specs.Response.{IsResponse, fields_of}
 use Rattle.httpdate.specs.Date.{date_text, unix_secs}
@@ -7,7 +7,7 @@ use Rattle.httpdate.specs.declared.date.HttpDate.{HttpDate}
 use Rattle.dav_access.specs.Users.{ListsUsers}
 use Rattle.dav_access.specs.declared.error.UsersError.{UsersError}
 use Rattle.dav_core.specs.World.{last_moment}
-use Rattle.dav_kept.specs.Kept.{Holding, IsAnswerOf, RecordsFollow, StaysInJournal, answer_step, committed, held_by, journal_of, with_batch}
+use Rattle.dav_kept.specs.Kept.{Holding, IsAnswerOf, RecordsFollow, StaysInJournal, answer_step, committed, first_block, held_by, journal_of, preface_of, snapshot_of, with_batch, with_snapshot}
 use Rattle.dav_kept.specs.Records.{RequestView}
 use Rattle.dav_kept.specs.declared.handler.Effect.{Effect}
 use Rattle.dav_kept.specs.declared.kept.Kept.{Kept}
@@ -34,19 +34,41 @@ held_of s = held_by s.kept
 
 -- The run of the records goes on: more may follow in the batch, with tokens of the next numbers, and the journal keeps the blocks that it
 -- kept.
-pub record GoesOn {H J : Type 0} (answers : H → RequestView → Response → H → Type 0) (kept : J → List (List ℕ) → Type 0)
-    (old new : Kept H J) : Type 0 where
+pub record GoesOn {H J : Type 0} (answers : H → RequestView → Response → H → Type 0) (is_clean : J → Type 0)
+    (kept : J → List (List ℕ) → Type 0) (old new : Kept H J) : Type 0 where
   pub follows : RecordsFollow (answer_step answers) (held_by old) (held_by new)
   pub numbered : AreNumbered (held_by old).tokens follows.plays.leads.records
   pub stays : StaysInJournal old new
+  pub clean : is_clean (journal_of new) → is_clean (journal_of old)
+  pub keeps : (blocks : List (List ℕ)) → kept (journal_of old) blocks → kept (journal_of new) blocks
+
+-- What is held is as it was, and so are the blocks that the journal keeps.
+pub record StaysKept {H J : Type 0} (is_clean : J → Type 0) (kept : J → List (List ℕ) → Type 0) (old new : Kept H J) : Type 0 where
+  pub held : held_by new ≡ held_by old
+  pub stays : StaysInJournal old new
+  pub clean : is_clean (journal_of new) → is_clean (journal_of old)
   pub keeps : (blocks : List (List ℕ)) → kept (journal_of old) blocks → kept (journal_of new) blocks
 
 -- All that was answered is kept: the batch is one more block of the journal.
-pub record Commits {H J : Type 0} (kept : J → List (List ℕ) → Type 0) (old new : Kept H J) : Type 0 where
+pub record Commits {H J : Type 0} (is_clean : J → Type 0) (kept : J → List (List ℕ) → Type 0) (old new : Kept H J) : Type 0 where
   pub held : held_by new ≡ committed (held_by old)
   pub stays : StaysInJournal old new
+  pub clean : is_clean (journal_of new) → is_clean (journal_of old)
   pub keeps : (blocks : List (List ℕ)) → kept (journal_of old) blocks
       → kept (journal_of new) (with_batch blocks (held_by old).batch)
+
+-- All that was answered is kept, and the journal begins anew with a snapshot of the state; or it doesn't, since that can't be saved, or the
+-- disk has no room for it.
+pub record Saves {H J : Type 0} (saved : H → List ℕ) (is_saveable : H → Type 0) (is_clean : J → Type 0)
+    (kept : J → List (List ℕ) → Type 0) (old new : Kept H J) : Type 0 where
+  pub is_made : Bool
+  pub saveable : IsTrue is_made → is_saveable (held_by old).state
+  pub held : held_by new ≡ committed (held_by old)
+  pub stays : StaysInJournal old new
+  pub clean : is_clean (journal_of new) → is_clean (journal_of old)
+  pub keeps : is_clean (journal_of new) → (blocks : List (List ℕ)) → kept (journal_of old) blocks
+      → kept (journal_of new) (with_snapshot is_made (first_block (preface_of old) (Some (snapshot_of saved (held_by old))))
+      (with_batch blocks (held_by old).batch))
 
 -- ---- a request
 
@@ -76,13 +98,13 @@ pub record IsDated (moment : ℕ) (own sent : Response) : Type 0 where
   pub body : sent.body ≡ own.body
 
 -- A service answers a request: what it goes by stays as it was, and the run of its records goes on.
-pub record Serves {H J : Type 0} (answers : H → RequestView → Response → H → Type 0) (kept : J → List (List ℕ) → Type 0)
-    (old : Service H J) (asked : Asked) (sent : Response) (new : Service H J) : Type 0 where
+pub record Serves {H J : Type 0} (answers : H → RequestView → Response → H → Type 0) (is_clean : J → Type 0)
+    (kept : J → List (List ℕ) → Type 0) (old : Service H J) (asked : Asked) (sent : Response) (new : Service H J) : Type 0 where
   pub own : Response
   pub responds : IsResponseTo answers (admission_of old) (held_of old) asked own (held_of new)
   pub dated : IsDated (admission_of old).moment own sent
   pub same : admission_of new ≡ admission_of old
-  pub goes_on : GoesOn answers kept (kept_of old) (kept_of new)
+  pub goes_on : GoesOn answers is_clean kept (kept_of old) (kept_of new)
 
 -- ---- what the front tells besides
 
@@ -127,24 +149,23 @@ pub data IsEnded {S : Type 0} (answers : S → RequestView → Response → S �
 
 -- A moment passes; one before the last one doesn't, since a clock that goes back stands still. Where it is later, locks end whose time has
 -- passed by then.
-pub record IsPassed {H J : Type 0} (answers : H → RequestView → Response → H → Type 0) (kept : J → List (List ℕ) → Type 0)
-    (ends : H → ℕ → Option (List ℕ) → Type 0) (old : Service H J) (seconds : ℕ) (new : Service H J) : Type 0 where
+pub record IsPassed {H J : Type 0} (answers : H → RequestView → Response → H → Type 0) (is_clean : J → Type 0)
+    (kept : J → List (List ℕ) → Type 0) (ends : H → ℕ → Option (List ℕ) → Type 0) (old : Service H J) (seconds : ℕ) (new : Service H J) : Type 0 where
   pub moment : admission_of new ≡ record (admission_of old) { moment = max (admission_of old).moment (min seconds last_moment) }
   pub ended : ((admission_of new ≡ admission_of old) × (kept_of new ≡ kept_of old))
       ⊎ ((mid : Holding H) × EndsLocks answers ends (admission_of new).moment (held_of old) mid
       × IsEnded answers ends (admission_of new).moment mid (held_of new))
-  pub goes_on : GoesOn answers kept (kept_of old) (kept_of new)
+  pub goes_on : GoesOn answers is_clean kept (kept_of old) (kept_of new)
 
 -- ---- all is kept
 
--- a second passed: what is held is as it was, and so are the blocks that are kept
-pub record IsMarked {H J : Type 0} (kept : J → List (List ℕ) → Type 0) (old new : Service H J) : Type 0 where
+-- A second passed: what is held is as it was, and so are the blocks that are kept; or the journal began anew.
+pub record IsMarked {H J : Type 0} (saved : H → List ℕ) (is_saveable : H → Type 0) (is_clean : J → Type 0)
+    (kept : J → List (List ℕ) → Type 0) (old new : Service H J) : Type 0 where
   pub same : admission_of new ≡ admission_of old
-  pub held : held_of new ≡ held_of old
-  pub stays : StaysInJournal (kept_of old) (kept_of new)
-  pub keeps : (blocks : List (List ℕ)) → kept (journal_of (kept_of old)) blocks → kept (journal_of (kept_of new)) blocks
+  pub keeps : StaysKept is_clean kept (kept_of old) (kept_of new) ⊎ Saves saved is_saveable is_clean kept (kept_of old) (kept_of new)
 
 -- all that was answered is kept
-pub record IsCommitted {H J : Type 0} (kept : J → List (List ℕ) → Type 0) (old new : Service H J) : Type 0 where
+pub record IsCommitted {H J : Type 0} (is_clean : J → Type 0) (kept : J → List (List ℕ) → Type 0) (old new : Service H J) : Type 0 where
   pub same : admission_of new ≡ admission_of old
-  pub commits : Commits kept (kept_of old) (kept_of new)
+  pub commits : Commits is_clean kept (kept_of old) (kept_of new)

@@ -10,7 +10,7 @@ pub fn tokens_differ()
     ensures { TokensDiffer }
 {}
 
-/// A start goes on with what was: two servers over the same blocks, with the same batch, hold the same.
+/// A start goes on with what was: two servers over the same snapshot and blocks, with the same batch, hold the same.
 pub fn restarts_change_nothing()
     ensures { RestartsChangeNothing }
 {}
@@ -27,8 +27,9 @@ pub fn lives_keep_promises()
     ensures { LivesKeepPromises }
 {}
 
-/// A start goes on with the run that was: a server that is opened over the blocks of one, after a commit, holds the same, and the tokens
-/// of its records are those of the numbers from 0 on.
+/// A start goes on with the run that was, whatever a crash left of its journal, and whenever: it ran all records but perhaps those
+/// of the batch, of which no reply was released; their tokens are those of the numbers from 0 on; and where it ran all, it holds
+/// what was held.
 pub fn restarts_go_on<J: Keeps>()
     ensures { RestartsGoOn J.kept J.has_read }
 {}

@@ -1,15 +1,16 @@
 //! A live server, behind one stream of reports and one of orders.
 ghost use Rattle.std.specs.Prelude.{◌≡◌, [], IfOk};
-ghost use Rattle.dav_journal.specs.Journal.{IsClean, IsReading};
+ghost use Rattle.dav_journal.specs.Pair.{IsCleanPair, IsReadingPair};
 ghost use Rattle.dav_live.specs.LiveRun.{service_of};
 
 use crate::fault::{Fault, OpenError};
 use crate::machine::Machine;
-use crate::service::Service;
+use crate::service::{Service, preface};
 use crate::settings::Settings;
 use dav_access::Users;
 use dav_http::Handler;
-use dav_journal::Journal;
+use dav_journal::Pair;
+use dav_kept::adopt;
 use dav_turns::{Turns, TurnsConfig};
 use dav_wire::Config;
 use http1::Limits;
@@ -37,7 +38,7 @@ pub trait Watch {
 pub struct Live<D: Disk + Drop> {
     alloc: Global,
     turns: Turns,
-    service: Service<Machine, Journal<D>>,
+    service: Service<Machine, Pair<D>>,
 }
 
 // What was read last, the reports that weren't taken yet, and room for orders.
@@ -49,13 +50,16 @@ struct Pipe {
 }
 
 impl<D: Disk + Drop> Live<D> {
-    ghost use Rattle.std.specs.Prelude.{◌≡◌, ◌≢◌, ◌⊎◌, ◌<◌, ℕ, List, Err, IfOk, OnOk, length, string_bytes};
+    ghost use Rattle.std.specs.Prelude.{◌≡◌, ◌≢◌, ◌⊎◌, ◌<◌, ℕ, List, Err, IfOk, OnOk, Option, length, string_bytes};
     ghost use Rattle.std.specs.List.{flat_map};
     ghost use Rattle.std.specs.Io.KnownBytes.{Appends};
-    ghost use Rattle.dav_journal.specs.Journal.{HasRead, IsClean, IsKept, blocks_end, file_of};
+    ghost use Rattle.dav_journal.specs.Journal.{blocks_end, file_of};
+    ghost use Rattle.dav_journal.specs.Pair.{HasReadPair, IsCleanPair, IsKeptPair, counting};
     ghost use Rattle.sqlite_disk.specs.Disk.{Holds};
+    ghost use Rattle.dav_http.specs.Saved.{IsSaveable, Loads, saved_bytes};
     ghost use Rattle.dav_http.specs.Steps.{new_server};
-    ghost use Rattle.dav_kept.specs.Kept.{journal_of};
+    ghost use Rattle.dav_kept.specs.Kept.{Snapshot, answer_step, held_by, journal_of};
+    ghost use Rattle.dav_kept.specs.Life.{IsRunSince};
     ghost use Rattle.dav_server.specs.Server.{Server as ServerValue};
     ghost use Rattle.dav_turns.specs.Frames.{Order, order_bytes};
     ghost use Rattle.dav_turns.specs.Turns.{Turn};
@@ -64,20 +68,22 @@ impl<D: Disk + Drop> Live<D> {
     ghost use Rattle.dav_live.specs.Numbered.{AreNumbered};
     ghost use Rattle.dav_live.specs.LiveRun.{doing, kept_in, service_of, turns_of};
 
-    /// A server over the file of its journal: what it answers is as after the requests that the journal has. The file is as it was,
-    /// unless it was empty; `begin` comes next.
+    /// A server over the two files of its journal: what it answers is as after the requests that the journal has. The files are as
+    /// they were, unless they were empty, or the first was the journal of a server from before it made snapshots, which becomes the
+    /// pair; `begin` comes next.
     pub fn open(
         alloc: Global,
-        disk: D,
+        one: D,
+        other: D,
         users: Option<Users>,
         settings: Settings,
     ) -> Result<Live<D>, OpenError>
-        ensures run { IfOk result (λ l. (blocks : List (List ℕ))
-            × (IsClean D.Disk (journal_of (kept_in l)) → IsOpened IsAnswer
-            (λ j bs. HasRead D.Disk j bs) (new_server (string_bytes settings.prefix)) blocks
-            (kept_in l))) }
+        ensures run { IfOk result (λ l. (start : Option Snapshot) × (blocks : List (List ℕ))
+            × (IsCleanPair D.Disk (journal_of (kept_in l)) → IsOpened IsAnswer Loads
+            (λ j bs. HasReadPair D.Disk j bs) (new_server (string_bytes settings.prefix)) start
+            blocks (kept_in l))) }
     {
-        let journal = opened(disk)?;
+        let journal = opened(alloc, one, other, preface(settings.prefix.as_str()))?;
         let handler = Handler::new(alloc, settings.prefix.as_str())?;
         let machine = Machine::new(alloc, handler);
         let service = Service::open(alloc, machine, journal, users, settings)?;
@@ -86,39 +92,47 @@ impl<D: Disk + Drop> Live<D> {
 
     /// Where the state's last whole block ends, and how many bytes follow that `begin` drops.
     pub fn rest(&mut self) -> Result<(usize, usize), OpenError>
-        ensures opened { (first : ServerValue) (blocks : List (List ℕ))
-            → IsOpened IsAnswer (λ j bs. HasRead D.Disk j bs) first blocks (kept_in self.old)
-            → IsOpened IsAnswer (λ j bs. HasRead D.Disk j bs) first blocks (kept_in self.new) }
-        ensures place { IfOk result (λ p. p.0 ≡ blocks_end (journal_of (kept_in self.new))) }
-        ensures clean { IsClean D.Disk (journal_of (kept_in self.new))
-            → IsClean D.Disk (journal_of (kept_in self.old)) }
+        ensures opened { (first : ServerValue) (start : Option Snapshot)
+            (blocks : List (List ℕ)) → IsOpened IsAnswer Loads
+            (λ j bs. HasReadPair D.Disk j bs) first start blocks (kept_in self.old)
+            → IsOpened IsAnswer Loads (λ j bs. HasReadPair D.Disk j bs) first start blocks
+            (kept_in self.new) }
+        ensures place { IfOk result
+            (λ p. p.0 ≡ blocks_end (counting (journal_of (kept_in self.new)))) }
+        ensures clean { IsCleanPair D.Disk (journal_of (kept_in self.new))
+            → IsCleanPair D.Disk (journal_of (kept_in self.old)) }
     {
         self.service.rest()
     }
 
     /// Reads bytes of the state's file.
     pub fn read(&mut self, at: usize, piece: &mut [u8]) -> Result<(), OpenError>
-        ensures opened { (first : ServerValue) (blocks : List (List ℕ))
-            → IsOpened IsAnswer (λ j bs. HasRead D.Disk j bs) first blocks (kept_in self.old)
-            → IsOpened IsAnswer (λ j bs. HasRead D.Disk j bs) first blocks (kept_in self.new) }
-        ensures bytes { OnOk result (IsClean D.Disk (journal_of (kept_in self.new))
+        ensures opened { (first : ServerValue) (start : Option Snapshot)
+            (blocks : List (List ℕ)) → IsOpened IsAnswer Loads
+            (λ j bs. HasReadPair D.Disk j bs) first start blocks (kept_in self.old)
+            → IsOpened IsAnswer Loads (λ j bs. HasReadPair D.Disk j bs) first start blocks
+            (kept_in self.new) }
+        ensures bytes { OnOk result (IsCleanPair D.Disk (journal_of (kept_in self.new))
             → 0 < length piece.old
-            → Holds (file_of D.Disk (journal_of (kept_in self.old))) at piece.new) }
-        ensures clean { IsClean D.Disk (journal_of (kept_in self.new))
-            → IsClean D.Disk (journal_of (kept_in self.old)) }
+            → Holds (file_of D.Disk (counting (journal_of (kept_in self.old)))) at piece.new) }
+        ensures clean { IsCleanPair D.Disk (journal_of (kept_in self.new))
+            → IsCleanPair D.Disk (journal_of (kept_in self.old)) }
     {
         self.service.read(at, piece)
     }
 
     /// Makes the state ready for requests.
     pub fn begin(&mut self) -> Result<(), OpenError>
-        ensures run { (first : ServerValue) (blocks : List (List ℕ)) (opened : IsOpened IsAnswer
-            (λ j bs. HasRead D.Disk j bs) first blocks (kept_in self.old))
-            → AreNumbered 0 opened.run.records
-            → OnOk result (IsClean D.Disk (journal_of (kept_in self.new))
-            → IsOneRun IsAnswer (λ j bs. IsKept D.Disk j bs) first blocks (kept_in self.new)) }
-        ensures clean { IsClean D.Disk (journal_of (kept_in self.new))
-            → IsClean D.Disk (journal_of (kept_in self.old)) }
+        ensures run { (first : ServerValue) (start : Option Snapshot) (blocks : List (List ℕ))
+            → IsOpened IsAnswer Loads (λ j bs. HasReadPair D.Disk j bs) first start blocks
+            (kept_in self.old) → (since : IsRunSince (answer_step IsAnswer) saved_bytes
+            IsSaveable first start blocks (held_by (kept_in self.old)))
+            → AreNumbered 0 since.all.records
+            → OnOk result (IsCleanPair D.Disk (journal_of (kept_in self.new))
+            → IsOneRun IsAnswer saved_bytes IsSaveable (λ j bs. IsKeptPair D.Disk j bs) first
+            since.all.records (kept_in self.new)) }
+        ensures clean { IsCleanPair D.Disk (journal_of (kept_in self.new))
+            → IsCleanPair D.Disk (journal_of (kept_in self.old)) }
     {
         self.service.begin()
     }
@@ -131,8 +145,9 @@ impl<D: Disk + Drop> Live<D> {
         writer: &mut W,
         watch: &mut L,
     ) -> Fault
-        ensures { result ≡ Fault.Ended → RunGoesOn IsAnswer (λ j bs. IsKept D.Disk j bs)
-            (kept_in self.old) (kept_in self.new) }
+        ensures { result ≡ Fault.Ended → RunGoesOn IsAnswer saved_bytes IsSaveable
+            (λ j. IsCleanPair D.Disk j) (λ j bs. IsKeptPair D.Disk j bs) (kept_in self.old)
+            (kept_in self.new) }
     {
         let Ok(mut pipe) = new_pipe(self.alloc) else {
             return Fault::Memory;
@@ -159,10 +174,12 @@ impl<D: Disk + Drop> Live<D> {
             (service_of self.new) ordered
             × Appends (W.contents writer.old) (W.contents writer.new)
             (flat_map order_bytes ordered)) }
-        ensures run { OnOk result (RunGoesOn IsAnswer (λ j bs. IsKept D.Disk j bs)
-            (kept_in self.old) (kept_in self.new)) }
+        ensures run { OnOk result (RunGoesOn IsAnswer saved_bytes IsSaveable
+            (λ j. IsCleanPair D.Disk j) (λ j bs. IsKeptPair D.Disk j bs) (kept_in self.old)
+            (kept_in self.new)) }
         ensures held { (writer.new ≡ writer.old) ⊎ RunGoesOn IsAnswer
-            (λ j bs. IsKept D.Disk j bs) (kept_in self.old) (kept_in self.new) }
+            saved_bytes IsSaveable (λ j. IsCleanPair D.Disk j) (λ j bs. IsKeptPair D.Disk j bs)
+            (kept_in self.old) (kept_in self.new) }
         ensures fault { result ≢ Err Fault.Ended }
     {
         match self.turns.serve(&mut self.service, reports, orders, writer) {
@@ -179,8 +196,9 @@ impl<D: Disk + Drop> Live<D> {
         writer: &mut W,
         watch: &mut L,
     ) -> Result<(), Fault>
-        ensures run { OnOk result (RunGoesOn IsAnswer (λ j bs. IsKept D.Disk j bs)
-            (kept_in self.old) (kept_in self.new)) }
+        ensures run { OnOk result (RunGoesOn IsAnswer saved_bytes IsSaveable
+            (λ j. IsCleanPair D.Disk j) (λ j bs. IsKeptPair D.Disk j bs) (kept_in self.old)
+            (kept_in self.new)) }
         ensures ended { result ≡ Err Fault.Ended → kept_in self.new ≡ kept_in self.old }
     {
         read_more(pipe, reader)?;
@@ -192,19 +210,25 @@ impl<D: Disk + Drop> Live<D> {
     }
 }
 
-// A journal over a disk, which is open.
-fn opened<D: Disk + Drop>(disk: D) -> Result<Journal<D>, OpenError>
-    ensures { IfOk result (λ j. IsClean D.Disk j → IsReading D.Disk j []) }
+// A journal over two disks, which is open. The first may have that of a server from before it made snapshots.
+fn opened<D: Disk + Drop>(
+    alloc: Global,
+    one: D,
+    other: D,
+    preface: &[u8],
+) -> Result<Pair<D>, OpenError>
+    ensures { IfOk result (λ j. IsCleanPair D.Disk j → IsReadingPair D.Disk j []) }
 {
-    let mut journal = Journal::new(disk);
-    journal.open()?;
-    Ok(journal)
+    let mut pair = Pair::new(one, other);
+    adopt(alloc, &mut pair, preface)?;
+    pair.open(alloc)?;
+    Ok(pair)
 }
 
 // A live server without connections.
 fn live_of<D: Disk + Drop>(
     alloc: Global,
-    service: Service<Machine, Journal<D>>,
+    service: Service<Machine, Pair<D>>,
 ) -> Result<Live<D>, OpenError>
     ensures { IfOk result (λ l. service_of l ≡ service) }
 {
@@ -216,7 +240,7 @@ fn live_of<D: Disk + Drop>(
 }
 
 // The limits of the connections: of each, heads of 16 KiB, and no request is read while more than 64 KiB wait to be sent.
-fn config_of<D: Disk + Drop>(service: &Service<Machine, Journal<D>>) -> TurnsConfig {
+fn config_of<D: Disk + Drop>(service: &Service<Machine, Pair<D>>) -> TurnsConfig {
     let connection = Config {
         limits: Limits::default(),
         max_body_len: usize::try_from(service.most_body()).unwrap_or(usize::MAX),

@@ -1,9 +1,11 @@
 //! What the requests of a live server are answered by: the machine, and a page where somebody asks for a folder.
 ghost use Rattle.std.specs.Prelude.{◌≡◌, ◌⊎◌, ◌↔◌, IfOk, IsFalse, IsTrue, OnOk, codes};
+ghost use Rattle.dav_http.specs.Saved.{IsSaveable, Loads, saved_bytes};
 ghost use Rattle.http_server.specs.Response.{IsBlank};
 ghost use Rattle.dav_http.specs.Leaves.{Leaves};
 ghost use Rattle.dav_http.specs.Steps.{IsStepFor};
 ghost use Rattle.dav_kept.specs.declared.handler.Effect.TheVariants.{Left};
+ghost use Rattle.dav_live.proofs.SavedRuns.{loads_what_was_saved};
 ghost use Rattle.dav_live.specs.Answers.{AsksToSee, IsAnswer, IsSentFor, TellsHead, caller_of};
 
 use crate::ends::Ends;
@@ -13,6 +15,7 @@ use dav_core::errors::NoMemory;
 use dav_engine::{Caller, Reply, ReplyBody};
 use dav_http::{HandleError as HttpError, Handler, Head, leaves, method_of, send, unlock_head};
 use dav_kept::{Effect, HandleError, Handles, Request};
+use dav_saved::LoadError;
 use http_server::Response;
 use std::alloc::Global;
 use std::marker::Model;
@@ -249,6 +252,26 @@ impl Handles for Machine {
             answer_with(self.alloc, request.head, reply, response)
         }
     }
+
+    ghost saved = { λ server. saved_bytes server };
+
+    ghost is_saveable = { λ server. IsSaveable server };
+
+    ghost loads = { λ old bytes new. Loads old bytes new };
+
+    fn save(&self, out: &mut Vec<u8>) -> Result<bool, HandleError> {
+        Ok(self.handler.save(self.alloc, out)?)
+    }
+
+    fn load(&mut self, bytes: &[u8]) -> Result<(), HandleError> {
+        match self.handler.load(self.alloc, bytes) {
+            Ok(()) => Ok(()),
+            Err(LoadError::NotSaved) => Err(HandleError::Malformed),
+            Err(LoadError::Memory) => Err(HandleError::Memory),
+        }
+    }
+
+    ghost loads_what_was_saved = { loads_what_was_saved };
 }
 
 impl Ends for Machine {

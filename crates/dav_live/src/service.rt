@@ -22,15 +22,19 @@ pub struct Service<H, J> {
     told: Told,
     most_body: u64,
     most_waiting: u64,
+    short_journal: usize,
+    /// Whether a request was answered since the last second.
+    is_asked: bool,
 }
 
 impl<H: Ends + Drop, J: Keeps + Drop> Service<H, J> {
-    ghost use Rattle.std.specs.Prelude.{◌≡◌, ◌<◌, ℕ, List, [], IfOk, OnOk, length, map, min, replicate, string_bytes};
+    ghost use Rattle.std.specs.Prelude.{◌≡◌, ◌⊎◌, ◌<◌, ℕ, List, [], Option, IfOk, OnOk, length, map, min, replicate, string_bytes};
     ghost use Rattle.dav_core.specs.World.{last_moment};
-    ghost use Rattle.dav_kept.specs.Kept.{journal_of};
+    ghost use Rattle.dav_kept.specs.Kept.{Snapshot, answer_step, held_by, journal_of};
+    ghost use Rattle.dav_kept.specs.Life.{IsRunSince};
     ghost use Rattle.dav_live.specs.Life.{IsOneRun, IsOpened};
     ghost use Rattle.dav_live.specs.Numbered.{AreNumbered};
-    ghost use Rattle.dav_live.specs.Serving.{StaysAll, admission_of, held_of, kept_of};
+    ghost use Rattle.dav_live.specs.Serving.{Saves, StaysAll, StaysKept, admission_of, held_of, kept_of};
 
     /// A service of this handler, as the requests of the journal leave it.
     pub fn open(
@@ -40,9 +44,9 @@ impl<H: Ends + Drop, J: Keeps + Drop> Service<H, J> {
         users: Option<Users>,
         settings: Settings,
     ) -> Result<Service<H, J>, OpenError>
-        ensures run { IfOk result (λ s. (blocks : List (List ℕ))
+        ensures run { IfOk result (λ s. (start : Option Snapshot) × (blocks : List (List ℕ))
             × (J.is_clean (journal_of (kept_of s)) → J.has_so_far journal []
-            → IsOpened H.answers J.has_read handler blocks (kept_of s))) }
+            → IsOpened H.answers H.loads J.has_read handler start blocks (kept_of s))) }
         ensures clean { IfOk result (λ s. J.is_clean (journal_of (kept_of s))
             → J.is_clean journal) }
         ensures empty { IfOk result (λ s. (held_of s).batch ≡ []) }
@@ -58,6 +62,7 @@ impl<H: Ends + Drop, J: Keeps + Drop> Service<H, J> {
         let kept = Kept::open(alloc, handler, journal, preface(settings.prefix.as_str()))?;
         let told = Told::new(alloc, settings.logs);
         let (most_body, most_waiting) = (settings.most_body, settings.most_waiting);
+        let short_journal = settings.short_journal;
         Ok(Service {
             alloc,
             admission: Admission::new(alloc, settings, users, kept.latest()),
@@ -65,15 +70,17 @@ impl<H: Ends + Drop, J: Keeps + Drop> Service<H, J> {
             told,
             most_body,
             most_waiting,
+            short_journal,
+            is_asked: false,
         })
     }
 
     /// After which place of the state's file how many bytes follow that `begin` drops: what a crash left of a block that was
     /// never answered. 0 where none follow but zeros.
     pub fn rest(&mut self) -> Result<(usize, usize), OpenError>
-        ensures opened { (first : H) (blocks : List (List ℕ))
-            → IsOpened H.answers J.has_read first blocks (kept_of self.old)
-            → IsOpened H.answers J.has_read first blocks (kept_of self.new) }
+        ensures opened { (first : H) (start : Option Snapshot) (blocks : List (List ℕ))
+            → IsOpened H.answers H.loads J.has_read first start blocks (kept_of self.old)
+            → IsOpened H.answers H.loads J.has_read first start blocks (kept_of self.new) }
         ensures place { IfOk result (λ p. p.0 ≡ J.ends_at (journal_of (kept_of self.new))) }
         ensures clean { J.is_clean (journal_of (kept_of self.new))
             → J.is_clean (journal_of (kept_of self.old)) }
@@ -86,9 +93,9 @@ impl<H: Ends + Drop, J: Keeps + Drop> Service<H, J> {
 
     /// Reads bytes of the state's file.
     pub fn read(&mut self, at: usize, piece: &mut [u8]) -> Result<(), OpenError>
-        ensures opened { (first : H) (blocks : List (List ℕ))
-            → IsOpened H.answers J.has_read first blocks (kept_of self.old)
-            → IsOpened H.answers J.has_read first blocks (kept_of self.new) }
+        ensures opened { (first : H) (start : Option Snapshot) (blocks : List (List ℕ))
+            → IsOpened H.answers H.loads J.has_read first start blocks (kept_of self.old)
+            → IsOpened H.answers H.loads J.has_read first start blocks (kept_of self.new) }
         ensures bytes { OnOk result (J.is_clean (journal_of (kept_of self.new))
             → 0 < length piece.old
             → J.has_bytes (journal_of (kept_of self.old)) at piece.new) }
@@ -101,13 +108,34 @@ impl<H: Ends + Drop, J: Keeps + Drop> Service<H, J> {
         }
     }
 
-    /// Makes the state ready for requests: drops what isn't whole.
+    /// Makes the state ready for requests: drops what isn't whole. A journal that is long begins anew.
     pub fn begin(&mut self) -> Result<(), OpenError>
-        ensures run { (first : H) (blocks : List (List ℕ))
-            (opened : IsOpened H.answers J.has_read first blocks (kept_of self.old))
-            → AreNumbered 0 opened.run.records
+        ensures run { (first : H) (start : Option Snapshot) (blocks : List (List ℕ))
+            → IsOpened H.answers H.loads J.has_read first start blocks (kept_of self.old)
+            → (since : IsRunSince (answer_step H.answers) H.saved H.is_saveable first start
+            blocks (held_of self.old)) → AreNumbered 0 since.all.records
             → OnOk result (J.is_clean (journal_of (kept_of self.new))
-            → IsOneRun H.answers J.kept first blocks (kept_of self.new)) }
+            → IsOneRun H.answers H.saved H.is_saveable J.kept first since.all.records
+            (kept_of self.new)) }
+        ensures clean { J.is_clean (journal_of (kept_of self.new))
+            → J.is_clean (journal_of (kept_of self.old)) }
+    {
+        self.make_ready()?;
+        match self.shorten(self.short_journal) {
+            Ok(()) => Ok(()),
+            Err(error) => Err(error.into()),
+        }
+    }
+
+    // Makes the journal ready for requests.
+    fn make_ready(&mut self) -> Result<(), OpenError>
+        ensures run { (first : H) (start : Option Snapshot) (blocks : List (List ℕ))
+            → IsOpened H.answers H.loads J.has_read first start blocks (kept_of self.old)
+            → (since : IsRunSince (answer_step H.answers) H.saved H.is_saveable first start
+            blocks (held_of self.old)) → AreNumbered 0 since.all.records
+            → OnOk result (J.is_clean (journal_of (kept_of self.new))
+            → IsOneRun H.answers H.saved H.is_saveable J.kept first since.all.records
+            (kept_of self.new)) }
         ensures clean { J.is_clean (journal_of (kept_of self.new))
             → J.is_clean (journal_of (kept_of self.old)) }
     {
@@ -115,6 +143,22 @@ impl<H: Ends + Drop, J: Keeps + Drop> Service<H, J> {
             Ok(()) => Ok(()),
             Err(error) => Err(error.into()),
         }
+    }
+
+    // Lets the journal begin anew with a snapshot, where it takes more than so many bytes and twice what it took at the last one.
+    pub(super) fn shorten(&mut self, least: usize) -> Result<(), KeptError>
+        ensures same { admission_of self.new ≡ admission_of self.old }
+        ensures keeps { OnOk result (StaysKept J.is_clean J.kept (kept_of self.old)
+            (kept_of self.new)
+            ⊎ Saves H.saved H.is_saveable J.is_clean J.kept (kept_of self.old)
+            (kept_of self.new)) }
+        ensures clean { J.is_clean (journal_of (kept_of self.new))
+            → J.is_clean (journal_of (kept_of self.old)) }
+    {
+        if self.kept.is_long(least) {
+            self.kept.snapshot()?;
+        }
+        Ok(())
     }
 
     /// The most bytes of a body that isn't an element tree.
@@ -141,8 +185,8 @@ impl<H: Ends + Drop, J: Keeps + Drop> Service<H, J> {
     }
 }
 
-// The first block of the journal: the prefix, or a slash.
-fn preface(prefix: &str) -> &[u8] {
+// What the journal begins with: the prefix, or a slash.
+pub fn preface(prefix: &str) -> &[u8] {
     if prefix.is_empty() {
         b"/"
     } else {

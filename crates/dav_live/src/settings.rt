@@ -13,6 +13,8 @@ pub struct Settings {
     pub most_body: u64,
     /// The most bytes of the bodies that are being read, of all connections together.
     pub most_waiting: u64,
+    /// The bytes of a journal past which it may begin anew with a snapshot.
+    pub short_journal: usize,
     /// Whether a line is written of each request.
     pub logs: bool,
 }

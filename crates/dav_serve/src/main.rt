@@ -1,5 +1,5 @@
 //! The program `dav-serve FOLDER [OPTION..]`: a live server over its standard input and output, which a front gives it. It keeps
-//! its state in FOLDER/state.
+//! its state in FOLDER/state and FOLDER/state-wal, of which one counts.
 //!
 //! Exit status: 0 the input ended; 1 the arguments, the folder or the users are wrong, or the state is in use; 2 a report wasn't
 //! understood, or a pipe failed; 3 memory ran out; 4 the state is damaged or of another version, and nothing was changed; 5 the disk
@@ -64,9 +64,9 @@ fn open_live(rt: &HostRuntime, alloc: Global, options: Options) -> Result<Live<F
     let Ok(files) = open(rt, path.as_str(), Unknown) else {
         return Err(Refusal::State(folder));
     };
-    let Files { db, log: _ } = files;
+    let Files { db, log } = files;
     let prefix = settings.prefix.clone()?;
-    let mut live = match Live::open(alloc, db, users, settings) {
+    let mut live = match Live::open(alloc, db, log, users, settings) {
         Ok(live) => live,
         Err(error) => return Err(refused(folder, prefix, error)),
     };

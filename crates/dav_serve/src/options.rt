@@ -16,6 +16,9 @@ const BODY: u64 = 268_435_456;
 /// The least of what the bodies that are being read may have together where that isn't told: 1 GiB.
 const WAITING: u64 = 1_073_741_824;
 
+/// The bytes past which a journal may begin anew with a snapshot, where that isn't told: 64 MiB.
+const SHORT_JOURNAL: usize = 67_108_864;
+
 /// The folder of the state, and the settings.
 #[derive(Drop)]
 pub struct Options {
@@ -27,7 +30,7 @@ pub struct Options {
 #[derive(Debug, Drop, Error)]
 pub enum OptionsError {
     /// There is no folder among them.
-    #[error("usage: dav-serve FOLDER [--prefix /PATH] [--host NAME].. [--lock-time SECONDS] [--body BYTES] [--waiting BYTES] [--log]")]
+    #[error("usage: dav-serve FOLDER [--prefix /PATH] [--host NAME].. [--lock-time SECONDS] [--body BYTES] [--waiting BYTES] [--snapshot-past BYTES] [--log]")]
     NoFolder,
     /// No option has this name.
     #[error("'{0}' isn't an option")]
@@ -71,6 +74,7 @@ impl Options {
             lock_time: LOCK_TIME,
             most_body: BODY,
             most_waiting: 0,
+            short_journal: SHORT_JOURNAL,
             logs: false,
         };
         for _ in 0..u64::MAX {
@@ -116,6 +120,10 @@ fn set(settings: &mut Settings, name: String, value: Option<String>) -> Result<(
             settings.lock_time = u32::try_from(seconds).unwrap_or(u32::MAX);
         }
         "--waiting" => settings.most_waiting = number(name, value, u64::MAX)?,
+        "--snapshot-past" => {
+            let bytes = number(name, value, u64::MAX)?;
+            settings.short_journal = usize::try_from(bytes).unwrap_or(usize::MAX);
+        }
         _ => settings.most_body = number(name, value, u64::MAX)?,
     }
     Ok(())
@@ -125,7 +133,7 @@ fn set(settings: &mut Settings, name: String, value: Option<String>) -> Result<(
 fn takes_value(name: &str) -> bool {
     matches!(
         name,
-        "--prefix" | "--host" | "--lock-time" | "--body" | "--waiting"
+        "--prefix" | "--host" | "--lock-time" | "--body" | "--waiting" | "--snapshot-past"
     )
 }
 

@@ -22,6 +22,7 @@ const ROOM: usize = 1_048_576;
 impl<D: Disk + Drop> Journal<D> {
     /// Makes room for a block of so many bytes. `NoRoom` where the disk has none; the journal is as it was then.
     pub fn room(&mut self, count: usize) -> Result<(), JournalError>
+        ensures clean { IsClean D.Disk self.new → IsClean D.Disk self.old }
         ensures kept { (contents : List (List ℕ)) → IsKept D.Disk self.old contents
             → IsKept D.Disk self.new contents }
     {
@@ -40,6 +41,7 @@ impl<D: Disk + Drop> Journal<D> {
 
     // Writes zeros up to this length. False where that fails.
     fn grow(&mut self, len: usize) -> Result<bool, JournalError>
+        ensures clean { IsClean D.Disk self.new → IsClean D.Disk self.old }
         ensures kept { (contents : List (List ℕ)) → IsKept D.Disk self.old contents
             → IsKept D.Disk self.new contents }
     {
@@ -60,6 +62,7 @@ impl<D: Disk + Drop> Journal<D> {
 
     // The same, where what is before the zeros isn't known to be zeros.
     fn grow_more(&mut self, len: usize) -> Result<bool, JournalError>
+        ensures clean { IsClean D.Disk self.new → IsClean D.Disk self.old }
         ensures kept { (contents : List (List ℕ)) → IsKept D.Disk self.old contents
             → IsKept D.Disk self.new contents }
     {
@@ -70,6 +73,7 @@ impl<D: Disk + Drop> Journal<D> {
 
     // Makes sure that the zeros up to the end of the file are kept.
     fn settle(&mut self) -> Result<(), JournalError>
+        ensures clean { IsClean D.Disk self.new → IsClean D.Disk self.old }
         ensures kept { (contents : List (List ℕ)) → IsKept D.Disk self.old contents
             → HasZeros (file_of D.Disk self.old) self.old.zeros self.old.len
             → IsKept D.Disk self.new contents }
@@ -172,6 +176,7 @@ impl<D: Disk + Drop> Journal<D> {
 
 // Writes zeros from here up to a length: how far that went.
 fn fill<D: Disk>(disk: &mut D, from: usize, len: usize) -> Result<usize, JournalError>
+    ensures clean { IsTrue (D.Disk.is_clean disk.new) → IsTrue (D.Disk.is_clean disk.old) }
     ensures reached { IfOk result (λ n. from ≤ n) }
     ensures others { (n : ℕ) → n ≤ from
         → KeepsBelow n (D.Disk.seen disk.old) (D.Disk.seen disk.new) }

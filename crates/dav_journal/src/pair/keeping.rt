@@ -35,6 +35,7 @@ impl<D: Disk + Drop> Pair<D> {
     /// Makes room for a block of so many bytes. `NoRoom` where the disk has none; the pair is as it
     /// was then.
     pub fn room(&mut self, count: usize) -> Result<(), JournalError>
+        ensures clean { IsCleanPair D.Disk self.new → IsCleanPair D.Disk self.old }
         ensures kept { (contents : List (List ℕ)) → IsKeptPair D.Disk self.old contents
             → IsKeptPair D.Disk self.new contents }
     {
@@ -44,6 +45,7 @@ impl<D: Disk + Drop> Pair<D> {
     /// Makes room to begin anew with a content of so many bytes. `NoRoom` where the disk has none;
     /// the pair is as it was then.
     pub fn room_to_renew(&mut self, count: usize) -> Result<(), JournalError>
+        ensures clean { IsCleanPair D.Disk self.new → IsCleanPair D.Disk self.old }
         ensures kept { (contents : List (List ℕ)) → IsKeptPair D.Disk self.old contents
             → IsKeptPair D.Disk self.new contents }
     {
@@ -70,6 +72,7 @@ impl<D: Disk + Drop> Pair<D> {
     /// Makes sure, in a quiet moment, that the mark of the last block is kept too, as the next
     /// `keep` does otherwise. After an error nothing more may be asked.
     pub fn keep_mark(&mut self) -> Result<(), JournalError>
+        ensures clean { IsCleanPair D.Disk self.new → IsCleanPair D.Disk self.old }
         ensures kept { OnOk result ((contents : List (List ℕ))
             → IsKeptPair D.Disk self.old contents → IsKeptPair D.Disk self.new contents) }
         ensures any_moment { (contents : List (List ℕ)) → IsKeptPair D.Disk self.old contents

@@ -35,7 +35,7 @@ impl<H: Ends + Drop, J: Keeps + Drop> Service<H, J> {
             (held_of self.old) asked.now response.new (held_of self.new)) }
         ensures same { OnOk result (admission_of self.new ≡ admission_of self.old) }
         ensures goes_on { OnOk result
-            (GoesOn H.answers J.kept (kept_of self.old) (kept_of self.new)) }
+            (GoesOn H.answers J.is_clean J.kept (kept_of self.old) (kept_of self.new)) }
     {
         match Head::read(asked.head.as_slice()) {
             Some(head) => self.respond_to(&head, asked, response),
@@ -59,7 +59,7 @@ impl<H: Ends + Drop, J: Keeps + Drop> Service<H, J> {
             (held_of self.old) asked.now response.new (held_of self.new)) }
         ensures same { OnOk result (admission_of self.new ≡ admission_of self.old) }
         ensures goes_on { OnOk result
-            (GoesOn H.answers J.kept (kept_of self.old) (kept_of self.new)) }
+            (GoesOn H.answers J.is_clean J.kept (kept_of self.old) (kept_of self.new)) }
     {
         let tokens = self.kept.tokens();
         match self.admission.decide(head, &asked.body, tokens)? {
@@ -100,7 +100,7 @@ impl<H: Ends + Drop, J: Keeps + Drop> Service<H, J> {
             (held_of self.new)) }
         ensures same { OnOk result (admission_of self.new ≡ admission_of self.old) }
         ensures goes_on { OnOk result
-            (GoesOn H.answers J.kept (kept_of self.old) (kept_of self.new)) }
+            (GoesOn H.answers J.is_clean J.kept (kept_of self.old) (kept_of self.new)) }
     {
         let request = request_of(
             self.admission.moment(),
@@ -123,7 +123,7 @@ impl<H: Ends + Drop, J: Keeps + Drop> Service<H, J> {
             (held_of self.new)) }
         ensures same { OnOk result (admission_of self.new ≡ admission_of self.old) }
         ensures goes_on { OnOk result
-            (GoesOn H.answers J.kept (kept_of self.old) (kept_of self.new)) }
+            (GoesOn H.answers J.is_clean J.kept (kept_of self.old) (kept_of self.new)) }
     {
         match self.kept.answer_safe(request, response) {
             Ok(()) => Ok(()),
@@ -143,7 +143,7 @@ impl<H: Ends + Drop, J: Keeps + Drop> Service<H, J> {
             (held_of self.new)) }
         ensures same { OnOk result (admission_of self.new ≡ admission_of self.old) }
         ensures goes_on { OnOk result
-            (GoesOn H.answers J.kept (kept_of self.old) (kept_of self.new)) }
+            (GoesOn H.answers J.is_clean J.kept (kept_of self.old) (kept_of self.new)) }
     {
         match self.kept.answer(request, response) {
             Ok(Some(_)) => {
@@ -239,7 +239,7 @@ impl<H: Ends + Drop, J: Keeps + Drop> Answerer for Service<H, J> {
 
     ghost judges = { λ old head verdict new. StaysAll old new };
 
-    ghost answers = { λ old asked response new. Serves H.answers J.kept old asked response new };
+    ghost answers = { λ old asked response new. Serves H.answers J.is_clean J.kept old asked response new };
 
     fn judge(&mut self, head: &[u8]) -> Result<Option<Rejection>, Stop> {
         if is_plain_read(head) {
@@ -253,6 +253,7 @@ impl<H: Ends + Drop, J: Keeps + Drop> Answerer for Service<H, J> {
 
     fn answer(&mut self, asked: &Asked, response: &mut Response) -> Result<(), Stop> {
         let moment = self.admission.moment();
+        self.is_asked = true;
         self.respond(asked, response)?;
         add_date(self.alloc, moment, response)
     }

@@ -3,7 +3,7 @@ use crate::ends::Ends;
 use crate::service::answering::request_of;
 use crate::service::{Service, stop_of};
 use bytes::Bytes;
-use dav_kept::Keeps;
+use dav_kept::{Keeps, KeptError};
 use dav_turns::Keeper;
 use dav_wire::Stop;
 use http::StatusCode;
@@ -13,7 +13,7 @@ impl<H: Ends + Drop, J: Keeps + Drop> Service<H, J> {
     ghost use Rattle.std.specs.Prelude.{◌≡◌, ◌↔◌, List, ℕ, Some, IfOk, IsFalse, IsTrue, OnOk};
     ghost use Rattle.http_server.specs.declared.response.Response.{Response as Sent};
     ghost use Rattle.dav_kept.specs.Kept.{Holding};
-    ghost use Rattle.dav_live.specs.Serving.{EndsLocks, GoesOn, IsEnded, IsListed, IsRun, admission_of, held_of, kept_of, own_request};
+    ghost use Rattle.dav_live.specs.Serving.{EndsLocks, GoesOn, IsEnded, IsListed, IsMarked, IsRun, admission_of, held_of, kept_of, own_request};
 
     // Ends the first lock whose time has passed, by a request of the server's own. False where there is none, where there is no
     // room on the disk, and where the request isn't answered 204 (RFC 4918, section 9.11).
@@ -27,7 +27,7 @@ impl<H: Ends + Drop, J: Keeps + Drop> Service<H, J> {
             (admission_of self.old).moment (held_of self.old) (held_of self.new)) }
         ensures same { OnOk result (admission_of self.new ≡ admission_of self.old) }
         ensures goes_on { OnOk result
-            (GoesOn H.answers J.kept (kept_of self.old) (kept_of self.new)) }
+            (GoesOn H.answers J.is_clean J.kept (kept_of self.old) (kept_of self.new)) }
     {
         let now = self.admission.moment();
         match self.kept.handler().next_end(now)? {
@@ -43,7 +43,7 @@ impl<H: Ends + Drop, J: Keeps + Drop> Service<H, J> {
             (held_of self.new) × (IsTrue is ↔ (sent.status ≡ 204))) }
         ensures same { OnOk result (admission_of self.new ≡ admission_of self.old) }
         ensures goes_on { OnOk result
-            (GoesOn H.answers J.kept (kept_of self.old) (kept_of self.new)) }
+            (GoesOn H.answers J.is_clean J.kept (kept_of self.old) (kept_of self.new)) }
     {
         let body = Bytes::from_static(b"");
         let request = request_of(now, None, None, head, &body);
@@ -59,7 +59,7 @@ impl<H: Ends + Drop, J: Keeps + Drop> Service<H, J> {
             × IsEnded H.answers H.ends (admission_of self.old).moment mid (held_of self.new)) }
         ensures same { OnOk result (admission_of self.new ≡ admission_of self.old) }
         ensures goes_on { OnOk result
-            (GoesOn H.answers J.kept (kept_of self.old) (kept_of self.new)) }
+            (GoesOn H.answers J.is_clean J.kept (kept_of self.old) (kept_of self.new)) }
     {
         for _ in 0..u64::MAX {
             if !self.end_lock()? {
@@ -67,6 +67,14 @@ impl<H: Ends + Drop, J: Keeps + Drop> Service<H, J> {
             }
         }
         Err(Stop::Disk)
+    }
+
+    // Lets a journal begin anew that takes more than so many bytes, and makes sure that the loss of what is kept would be seen.
+    fn mark(&mut self, least: usize) -> Result<(), KeptError>
+        ensures { OnOk result (IsMarked H.saved H.is_saveable J.is_clean J.kept self.old self.new) }
+    {
+        self.shorten(least)?;
+        self.kept.keep_mark()
     }
 
     // Takes the list of users anew, and tells who runs the server.
@@ -92,11 +100,11 @@ impl<H: Ends + Drop, J: Keeps + Drop> Keeper for Service<H, J> {
 
     ghost placed = { λ old address new. StaysAll old new };
 
-    ghost passed = { λ old seconds new. IsPassed H.answers J.kept H.ends old seconds new };
+    ghost passed = { λ old seconds new. IsPassed H.answers J.is_clean J.kept H.ends old seconds new };
 
-    ghost marked = { λ old new. IsMarked J.kept old new };
+    ghost marked = { λ old new. IsMarked H.saved H.is_saveable J.is_clean J.kept old new };
 
-    ghost kept = { λ old new. IsCommitted J.kept old new };
+    ghost kept = { λ old new. IsCommitted J.is_clean J.kept old new };
 
     fn hear_hello(&mut self, bytes: &[u8]) {
         self.admission.hear_hello(bytes);
@@ -119,8 +127,15 @@ impl<H: Ends + Drop, J: Keeps + Drop> Keeper for Service<H, J> {
         }
     }
 
+    // In a second in which nothing was asked a long journal begins anew; in any other only one that is four times as long.
     fn keep_mark(&mut self) -> Result<(), Stop> {
-        match self.kept.keep_mark() {
+        let least = if self.is_asked {
+            self.short_journal.saturating_mul(4)
+        } else {
+            self.short_journal
+        };
+        self.is_asked = false;
+        match self.mark(least) {
             Ok(()) => Ok(()),
             Err(error) => Err(stop_of(error)),
         }

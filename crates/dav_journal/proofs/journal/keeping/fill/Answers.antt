@@ -10,6 +10,7 @@ loop-preserved g c = record {
       let (before, first, same) = c.loop.invariant.step n low mid was in
       (before, first, below_then n c.loop.at _ before mid left (omega (arith, low, c.loop.invariant.low)) same torn);
   others = λ n low. below_then n c.loop.at _ _ _ _ (omega (arith, low, c.loop.invariant.low)) (c.loop.invariant.others n low) c.write_at.ensures.others;
+  clean = λ is. c.loop.invariant.clean (c.write_at.ensures.clean is);
   zeros = λ inside.
       let is = c.in-Some.ensures.lookup.0.2 in
       let long : length c.in-Some.piece.now ≡ c.min-count.result = omega (arith, c.in-Some.ensures.lookup.0.3) in

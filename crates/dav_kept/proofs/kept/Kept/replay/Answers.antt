@@ -1,30 +1,53 @@
-use Rattle.std.proofs.Common.{true≢false, Bool, [], ◌∷◌, refl, sym, subst, ◌∙◌}
+use Rattle.std.proofs.Common.{true≢false, Bool, None, ℕ, List, [], ◌∷◌, ◌++◌, refl, sym, ap, subst, ◌∙◌, append-nil}
+use Rattle.std.proofs.lemmas.Result.{on_ok_weaker}
 use Rattle.std.specs.List.{concat}
-use Rattle.dav_kept.specs.Kept.{Holding, PlaysRecords, held_by, journal_of, preface_of, answer_step, with_preface}
-use Rattle.dav_kept.proofs.KeptLemmas.{plays_none}
+use Rattle.dav_kept.specs.Kept.{Begins, Holding, PlaysRecords, answer_step, first_block, held_by, journal_of, preface_of, with_first}
+use Rattle.dav_kept.proofs.KeptLemmas.{of_none, of_some, plays_none}
 use Rattle.dav_kept.proofs.kept.Kept.replay.Goals as goal
 
-pub returns-in_ok-play_blocks-clause-played : goal.returns-in_ok-play_blocks-clause-played
-returns-in_ok-play_blocks-clause-played g c =
+pub returns-in_default-clause-run : goal.returns-in_default-clause-run
+returns-in_default-clause-run g c =
     let H = g.row.H.Denot in
-    let played = c.in_ok-play_blocks.ensures.played in (
-      played.0,
-      subst (λ (h : Holding H). PlaysRecords (answer_step g.H.Handles.answers) (concat played.0) h (held_by c.play_blocks.new.self)) c.find_preface.ensures.held played.1,
-      λ clean so.
-          let first = (c.in_ok-find_preface.ensures.found (c.play_blocks.ensures.clean clean) so).0 c.if-branch.true in
-          subst (λ (b : Bool). g.J.Keeps.has_read (journal_of c.play_blocks.new.self) (with_preface b (preface_of c.args.self.now) played.0))
-          (sym c.play_blocks.ensures.stays.novelty) (played.2 clean (preface_of c.args.self.now ∷ []) first),
-      λ novel. absurd (true≢false (sym novel ∙ c.play_blocks.ensures.stays.novelty)),
+    let step = answer_step g.H.Handles.answers in
+    let was = held_by c.args.self.now in
+    let none = ap (λ (h : Holding H). h.batch) c.requires.first in (
+      None,
+      [],
+      record {
+        begin = was;
+        begins = c.requires.first;
+        plays = subst (λ (h : Holding H). PlaysRecords step h.batch was h) (sym c.next_block.ensures.held) (subst (λ (t : List ℕ). PlaysRecords step t was was) (sym none) (plays_none step was));
+      },
+      (λ clean so. subst (λ (b : Bool). g.J.Keeps.has_read (journal_of c.next_block.new.self) (with_first b (first_block (preface_of c.args.self.now) None) []))
+          (sym (c.next_block.ensures.stays.novelty ∙ c.requires.is_new)) (of_none _ _ _ c.in_default.not-Some (c.in_ok-block.ensures.read clean [] so))),
+      (λ novel. (refl, refl)),
     )
 
-pub returns-else-branch-clause-played : goal.returns-else-branch-clause-played
-returns-else-branch-clause-played g c =
-    let H = g.row.H.Denot in (
-      [],
-      subst (λ (h : Holding H). PlaysRecords (answer_step g.H.Handles.answers) [] (held_by c.args.self.now) h) (sym c.find_preface.ensures.held)
-          (plays_none (answer_step g.H.Handles.answers) (held_by c.args.self.now)),
-      λ clean so.
-          subst (λ (b : Bool). g.J.Keeps.has_read (journal_of c.find_preface.new.self) (with_preface b (preface_of c.args.self.now) []))
-          (sym (c.find_preface.ensures.stays.novelty ∙ c.requires)) ((c.in_ok-find_preface.ensures.found clean so).1 c.if-branch.false),
-      λ novel. refl,
-    )
+pub returns-clause-run : goal.returns-clause-run
+returns-clause-run g c = on_ok_weaker c.play_blocks.result (λ played.
+    let H = g.row.H.Denot in
+    let step = answer_step g.H.Handles.answers in
+    let started = c.in_ok-start.ensures.begins in
+    let begin = held_by c.start.new.self in
+    let new = held_by c.play_blocks.new.self in
+    let first = first_block (preface_of c.args.self.now) started.0 in
+    let none = c.play_blocks.ensures.stays.batch ∙ c.in_ok-start.ensures.batch in (
+      started.0,
+      played.0,
+      record {
+        begin = begin;
+        begins = subst (λ (h : Holding H). Begins g.H.Handles.loads h.state started.0 begin) c.next_block.ensures.held started.2;
+        plays = subst (λ (t : List ℕ). PlaysRecords step t begin new) (sym (ap (λ (b : List ℕ). concat played.0 ++ b) none ∙ append-nil (concat played.0))) played.1;
+      },
+      (λ clean so.
+          let now = subst (λ j. g.J.Keeps.is_clean j) c.start.ensures.journal (c.play_blocks.ensures.clean clean) in
+          let read = of_some _ _ _ _ c.in-Some.is (c.in_ok-block.ensures.read now [] so) in
+          let is = sym c.deref.ensures.value ∙ started.1 ∙ ap (λ (p : List ℕ). first_block p started.0) c.next_block.ensures.stays.preface in
+          subst (λ (b : Bool). g.J.Keeps.has_read (journal_of c.play_blocks.new.self) (with_first b first played.0)) (sym c.play_blocks.ensures.stays.novelty)
+          (played.2 clean (first ∷ []) (subst (λ (b : List ℕ). g.J.Keeps.has_so_far (journal_of c.start.new.self) (b ∷ [])) is
+          (subst (λ j. g.J.Keeps.has_so_far j (c.in-Some.block.items ∷ [])) (sym c.start.ensures.journal) read)))),
+      (λ novel. absurd (true≢false (sym novel ∙ c.play_blocks.ensures.stays.novelty))),
+    )) c.play_blocks.ensures.played
+
+pub returns-clause-batch : goal.returns-clause-batch
+returns-clause-batch g c = on_ok_weaker c.play_blocks.result (λ played. c.play_blocks.ensures.stays.batch ∙ c.in_ok-start.ensures.batch) c.play_blocks.ensures.played

@@ -1,8 +1,0 @@
-use Rattle.dav_kept.proofs.ReadLemmas.{has_read_stays}
-use Rattle.dav_kept.proofs.over_journal.JournalKeeps.read.Goals as goal
-
-pub returns-in_err-read-clause-read : goal.returns-in_err-read-clause-read
-returns-in_err-read-clause-read g c = has_read_stays g.D.Disk _ _ c.read.ensures.stays
-
-pub returns-clause-read : goal.returns-clause-read
-returns-clause-read g c = has_read_stays g.D.Disk _ _ c.read.ensures.stays

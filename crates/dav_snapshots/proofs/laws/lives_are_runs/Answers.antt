@@ -1,5 +1,0 @@
-use Rattle.dav_snapshots.proofs.LifeLemmas.{lives_are_runs}
-use Rattle.dav_snapshots.proofs.laws.lives_are_runs.Goals as goal
-
-pub returns : goal.returns
-returns g c = lives_are_runs g.H.Handles.answers g.H.Handles.saved g.H.Handles.is_saveable g.H.Handles.loads g.met.H.Handles.loads_what_was_saved

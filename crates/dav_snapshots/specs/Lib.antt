@@ -1,4 +1,0 @@
-pub mod Error
-pub mod Kept
-pub mod Life
-pub mod Records
