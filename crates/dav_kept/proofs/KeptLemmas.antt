@@ -1,7 +1,7 @@
 -- Runs of records, and their bytes.
 use Rattle.std.specs.Prelude.{IfSome, MatchOption}
 use Rattle.std.specs.List.{concat}
-use Rattle.std.proofs.Common.{◌≡◌, ◌≢◌, ℕ, Option, None, Some, ◌+◌, max, List, [], ◌∷◌, ◌++◌, length, refl, sym, ap, ◌∙◌, subst, arith, append-nil, append_assoc}
+use Rattle.std.proofs.Common.{◌≡◌, ◌≢◌, ℕ, All, Option, None, Some, ◌+◌, max, List, [], ◌∷◌, ◌++◌, length, refl, sym, ap, ◌∙◌, subst, arith, append-nil, append_assoc}
 use Rattle.std.proofs.lemmas.List.Elements.{All-nil, All-cons, All-head, All-tail, All-append}
 use Rattle.std.proofs.lemmas.Grind.{flat_map-append}
 use Rattle.std.proofs.lemmas.List.Folds.{concat-append}
@@ -10,11 +10,11 @@ use Rattle.dav_kept.specs.declared.kept.Kept.{Kept}
 use Rattle.dav_kept.specs.Kept.{RecordsFollow, Holding, Leads, PlaysRecords, RecordsRun, StaysAsKept, committed, first_block, held_by, preface_of, snapshot_of}
 use Rattle.dav_kept.proofs.RecordLemmas.{one_record}
 
-tokens_append : (rs qs : List RecordView) → count_tokens (rs ++ qs) ≡ count_tokens rs + count_tokens qs
+pub tokens_append : (rs qs : List RecordView) → count_tokens (rs ++ qs) ≡ count_tokens rs + count_tokens qs
 tokens_append [] qs = omega arith
 tokens_append (r ∷ rs) qs = omega (arith, tokens_append rs qs)
 
-latest_append : (rs qs : List RecordView) → latest_moment (rs ++ qs) ≡ max (latest_moment rs) (latest_moment qs)
+pub latest_append : (rs qs : List RecordView) → latest_moment (rs ++ qs) ≡ max (latest_moment rs) (latest_moment qs)
 latest_append [] qs = omega arith
 latest_append (r ∷ rs) qs = omega (arith, latest_append rs qs)
 
@@ -23,7 +23,7 @@ module _ {S : Type 0} (step : S → RecordView → S → Type 0) where
   run_append [] qs a b c x y = subst (λ t. RecordsRun step t qs c) x y
   run_append (r ∷ rs) qs a b c x y = (x.0, x.1, run_append rs qs x.0 b c x.2 y)
 
-  pub leads_append : (xs ys : List ℕ) (a b c : S) (m n k l : ℕ) → Leads step xs a b m k → Leads step ys b c n l → Leads step (xs ++ ys) a c (m + n) (max k l)
+  abbrev pub leads_append : (xs ys : List ℕ) (a b c : S) (m n k l : ℕ) → Leads step xs a b m k → Leads step ys b c n l → Leads step (xs ++ ys) a c (m + n) (max k l)
   leads_append xs ys a b c m n k l x y = record {
     records = x.records ++ y.records;
     are = All-append IsRecord x.records y.records x.are y.are;
@@ -73,6 +73,22 @@ one_reading (r ∷ rs) (q ∷ qs) are others e =
     let first = one_record r q (records_bytes rs) (records_bytes qs) (All-head IsRecord r rs are) (All-head IsRecord q qs others) e in
     let later = one_reading rs qs (All-tail IsRecord r rs are) (All-tail IsRecord q qs others) first.1 in
     λ i. first.0 i ∷ later i
+
+-- the records of bytes are those that they are the bytes of
+pub same_records : {S : Type 0} (step : S → RecordView → S → Type 0) (bytes : List ℕ) (a b : S) (n l : ℕ) (x : Leads step bytes a b n l) (rs : List RecordView)
+    → All IsRecord rs → bytes ≡ records_bytes rs → x.records ≡ rs
+same_records step bytes a b n l x rs are e = one_reading x.records rs x.are are (sym x.spelled ∙ e)
+
+-- where the bytes of records begin with those of others, so do the records
+pub first_records : (rs qs : List RecordView) (tail : List ℕ) → All IsRecord rs → All IsRecord qs → records_bytes rs ++ tail ≡ records_bytes qs
+    → (rest : List RecordView) × (qs ≡ rs ++ rest) × (records_bytes rest ≡ tail)
+first_records [] qs tail are others e = (qs, refl, sym e)
+first_records (r ∷ rs) [] tail are others e = absurd (omega (arith, ap length e))
+first_records (r ∷ rs) (q ∷ qs) tail are others e =
+    let whole = sym (append_assoc (record_bytes r) (records_bytes rs) tail) ∙ e in
+    let first = one_record r q (records_bytes rs ++ tail) (records_bytes qs) (All-head IsRecord r rs are) (All-head IsRecord q qs others) whole in
+    let later = first_records rs qs tail (All-tail IsRecord r rs are) (All-tail IsRecord q qs others) first.1 in
+    (later.0, (λ i. sym first.0 i ∷ later.1 i), later.2)
 
 -- ---- a server that plays
 

@@ -24,7 +24,7 @@ plays_from step bytes a b c state tokens latest p = record {
   last = p.last ∙ ap (λ (n : ℕ). max n p.latest) (sym latest);
 }
 
-module _ {S : Type 0} (answers : S → RequestView → Response → S → Type 0) (saved : S → List ℕ) (is_saveable : S → Type 0) (loads : S → List ℕ → S → Type 0) (first : S) where
+module _ {S : Type 0} (answers : S → RequestView → Response → S → Type 0) (saved : S → List ℕ) (is_saveable : S → Type 0) (first : S) where
   -- the run since the first day, from a beginning on
   abbrev pub since : (start : Option Snapshot) (blocks : List (List ℕ)) (now : Holding S) (bytes : List ℕ) (begin : Holding S) → Leads (answer_step answers) bytes first begin.state begin.tokens begin.latest
       → IsBeginning saved is_saveable first bytes begin start → PlaysRecords (answer_step answers) (concat blocks ++ now.batch) begin now → IsRunSince (answer_step answers) saved is_saveable first start blocks now
@@ -64,8 +64,9 @@ module _ {S : Type 0} (answers : S → RequestView → Response → S → Type 0
       since (Some (snapshot_of saved old)) [] old (x.bytes ++ (concat blocks ++ old.batch)) old x.all (refl, can)
       (subst (λ (t : List ℕ). PlaysRecords (answer_step answers) t old old) (sym none) (plays_none (answer_step answers) old))
 
+module _ {S : Type 0} (answers : S → RequestView → Response → S → Type 0) (saved : S → List ℕ) (is_saveable : S → Type 0) (loads : S → List ℕ → S → Type 0) (first : S) where
   -- a start begins with what was held where the journal begins
-  same_beginning : LoadsWhatWasSaved answers saved is_saveable loads → (start : Option Snapshot) (bytes : List ℕ) (was now : Holding S) → Leads (answer_step answers) bytes first was.state was.tokens was.latest
+  pub same_beginning : LoadsWhatWasSaved answers saved is_saveable loads → (start : Option Snapshot) (bytes : List ℕ) (was now : Holding S) → Leads (answer_step answers) bytes first was.state was.tokens was.latest
       → IsBeginning saved is_saveable first bytes was start → Begins loads first start now → (now.state ≡ was.state) × (now.tokens ≡ was.tokens) × (now.latest ≡ was.latest)
   same_beginning back None bytes was now before begins is =
       let same = is ∙ sym begins.1 in (ap (λ (h : Holding S). h.state) same, ap (λ (h : Holding S). h.tokens) same, ap (λ (h : Holding S). h.latest) same)
@@ -80,19 +81,19 @@ module _ {S : Type 0} (answers : S → RequestView → Response → S → Type 0
       → IsRunOf (answer_step answers) loads first start left new → IsRunSince (answer_step answers) saved is_saveable first start left new
   after_start back start blocks left old new x run =
       let same = same_beginning back start x.bytes x.begin run.begin x.before x.beginning run.begins in
-      since start left new x.bytes x.begin x.before x.beginning (plays_from (answer_step answers) (concat left ++ new.batch) run.begin x.begin new (sym same.0) (sym same.1) (sym same.2) run.plays)
+      since answers saved is_saveable first start left new x.bytes x.begin x.before x.beginning (plays_from (answer_step answers) (concat left ++ new.batch) run.begin x.begin new (sym same.0) (sym same.1) (sym same.2) run.plays)
 
   lives_since : LoadsWhatWasSaved answers saved is_saveable loads → (start : Option Snapshot) (blocks : List (List ℕ)) (now : Holding S) → Lives answers saved is_saveable loads first start blocks now
       → IsRunSince (answer_step answers) saved is_saveable first start blocks now
-  lives_since back _ _ _ Lives.begins = since None [] (first_day first) [] (first_day first) (leads_none (answer_step answers) first) (refl, refl) (plays_none (answer_step answers) (first_day first))
-  lives_since back start blocks new (Lives.answered {old = old} x f) = after_answers start blocks old new (lives_since back start blocks old x) f
-  lives_since back _ _ _ (Lives.commits {start} {blocks} {old} x) = after_commit start blocks old (lives_since back start blocks old x)
-  lives_since back _ _ _ (Lives.saves {start} {blocks} {old} x none can) = after_snapshot start blocks old none can (lives_since back start blocks old x)
+  lives_since back _ _ _ Lives.begins = since answers saved is_saveable first None [] (first_day first) [] (first_day first) (leads_none (answer_step answers) first) (refl, refl) (plays_none (answer_step answers) (first_day first))
+  lives_since back start blocks new (Lives.answered {old = old} x f) = after_answers answers saved is_saveable first start blocks old new (lives_since back start blocks old x) f
+  lives_since back _ _ _ (Lives.commits {start} {blocks} {old} x) = after_commit answers saved is_saveable first start blocks old (lives_since back start blocks old x)
+  lives_since back _ _ _ (Lives.saves {start} {blocks} {old} x none can) = after_snapshot answers saved is_saveable first start blocks old none can (lives_since back start blocks old x)
   lives_since back _ _ _ (Lives.starts {start} {blocks} {old} {new} x none run) = after_start back start blocks blocks old new (lives_since back start blocks old x) run
   lives_since back _ _ _ (Lives.starts_after_a_commit {start} {blocks} {old} {new} x none run) =
-      after_start back start (with_batch blocks old.batch) (with_batch blocks old.batch) (committed old) new (after_commit start blocks old (lives_since back start blocks old x)) run
+      after_start back start (with_batch blocks old.batch) (with_batch blocks old.batch) (committed old) new (after_commit answers saved is_saveable first start blocks old (lives_since back start blocks old x)) run
   lives_since back _ _ _ (Lives.starts_after_a_snapshot {start} {blocks} {old} {new} x empty can none run) =
-      after_start back (Some (snapshot_of saved old)) [] [] old new (after_snapshot start blocks old empty can (lives_since back start blocks old x)) run
+      after_start back (Some (snapshot_of saved old)) [] [] old new (after_snapshot answers saved is_saveable first start blocks old empty can (lives_since back start blocks old x)) run
 
 pub lives_are_runs : {S : Type 0} (answers : S → RequestView → Response → S → Type 0) (saved : S → List ℕ) (is_saveable : S → Type 0) (loads : S → List ℕ → S → Type 0) → LoadsWhatWasSaved answers saved is_saveable loads → LivesAreRuns answers saved is_saveable loads
 lives_are_runs answers saved is_saveable loads back first start blocks now x = lives_since answers saved is_saveable loads first back start blocks now x

@@ -4,6 +4,7 @@ mod HostLemmas
 mod OneAnswer
 mod MachineRuns
 pub mod SavedRuns
+pub mod RunLemmas
 pub mod ServingLemmas
 pub mod TurnRuns
 pub mod LifePromises

@@ -2,7 +2,9 @@
 use Rattle.std.proofs.Common.{◌≡◌, ℕ, List, refl, ap, ◌∙◌}
 use Rattle.http_server.specs.declared.response.Response.{Response}
 use Rattle.dav_server.specs.Server.{Server}
+use Rattle.dav_http.specs.Saved.{Loads}
 use Rattle.dav_http.proofs.OneAnswer.{steps_are_one}
+use Rattle.dav_http.proofs.SavedLaws.{loads_one_server}
 use Rattle.dav_kept.specs.Kept.{answer_step}
 use Rattle.dav_kept.specs.Life.{IsDetermined}
 use Rattle.dav_kept.specs.Records.{RequestView}
@@ -20,9 +22,9 @@ pub answers_are_one : IsDetermined (answer_step IsAnswer)
 answers_are_one old r one other (x, status, is) (y, status', also) = one_end r.request old one other x y is also
 
 pub restarts_change_nothing : RestartsChangeNothing
-restarts_change_nothing first blocks a b x y batch =
-    let one = runs_are_one IsAnswer first blocks a b x y batch in
-    let state : a.state ≡ b.state = one.3 answers_are_one in
+restarts_change_nothing first start blocks a b x y batch =
+    let one = runs_are_one IsAnswer Loads first start blocks a b x y batch in
+    let state : a.state ≡ b.state = one.3 answers_are_one loads_one_server in
     ap (λ (s : Server). record { state = s; batch = a.batch; tokens = a.tokens; latest = a.latest }) state
     ∙ ap (λ (l : List ℕ). record { state = b.state; batch = l; tokens = a.tokens; latest = a.latest }) batch
     ∙ ap (λ (n : ℕ). record { state = b.state; batch = b.batch; tokens = n; latest = a.latest }) one.1

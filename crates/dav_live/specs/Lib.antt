@@ -1,6 +1,7 @@
 pub mod Line
 pub mod Hosts
 pub mod Admission
+pub mod Runs
 pub mod Serving
 pub mod Answers
 pub mod Tokens

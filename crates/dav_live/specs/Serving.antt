@@ -1,5 +1,5 @@
 -- How a live server answers requests and hears its front, and what of that is kept.
-use Rattle.std.specs.Prelude.{◌≡◌, ◌≢◌, ◌≤◌, ◌⊎◌, ℕ, Bool, IsTrue, List, [], ◌∷◌, ◌++◌, Option, Some, None, codes, max, min}
+use Rattle.std.specs.Prelude.{◌≡◌, ◌≢◌, ◌≤◌, ◌⊎◌, ℕ, List, [], ◌∷◌, ◌++◌, Option, Some, None, codes, max, min}
 use Rattle.http_server.specs.declared.response.Response.{Response}
 use Rattle.http_server.specs.Response.{IsResponse, fields_of}
 use Rattle.httpdate.specs.Date.{date_text, unix_secs}
@@ -7,14 +7,14 @@ use Rattle.httpdate.specs.declared.date.HttpDate.{HttpDate}
 use Rattle.dav_access.specs.Users.{ListsUsers}
 use Rattle.dav_access.specs.declared.error.UsersError.{UsersError}
 use Rattle.dav_core.specs.World.{last_moment}
-use Rattle.dav_kept.specs.Kept.{Holding, IsAnswerOf, RecordsFollow, StaysInJournal, answer_step, committed, first_block, held_by, journal_of, preface_of, snapshot_of, with_batch, with_snapshot}
+use Rattle.dav_kept.specs.Kept.{Holding, IsAnswerOf, held_by}
 use Rattle.dav_kept.specs.Records.{RequestView}
 use Rattle.dav_kept.specs.declared.handler.Effect.{Effect}
 use Rattle.dav_kept.specs.declared.kept.Kept.{Kept}
 use Rattle.dav_server.specs.Head.{IsHead, Request}
 use Rattle.dav_wire.specs.declared.answer.Asked.{Asked}
 use Rattle.dav_live.specs.Admission.{AdmissionView, IsRequestOf, IsTurnedAway, IsUnlisted, refusal_fields, status_of, with_random}
-use Rattle.dav_live.specs.Numbered.{AreNumbered}
+use Rattle.dav_live.specs.Runs.{Commits, GoesOn, Saves, StaysKept}
 use Rattle.dav_live.specs.declared.admission.Reason.{Reason}
 use Rattle.dav_live.specs.declared.service.Service.{Service}
 
@@ -29,46 +29,6 @@ kept_of s = s.kept
 -- what its server holds
 abbrev pub held_of : {H J : Type 0} → Service H J → Holding H
 held_of s = held_by s.kept
-
--- ---- what is kept
-
--- The run of the records goes on: more may follow in the batch, with tokens of the next numbers, and the journal keeps the blocks that it
--- kept.
-pub record GoesOn {H J : Type 0} (answers : H → RequestView → Response → H → Type 0) (is_clean : J → Type 0)
-    (kept : J → List (List ℕ) → Type 0) (old new : Kept H J) : Type 0 where
-  pub follows : RecordsFollow (answer_step answers) (held_by old) (held_by new)
-  pub numbered : AreNumbered (held_by old).tokens follows.plays.leads.records
-  pub stays : StaysInJournal old new
-  pub clean : is_clean (journal_of new) → is_clean (journal_of old)
-  pub keeps : (blocks : List (List ℕ)) → kept (journal_of old) blocks → kept (journal_of new) blocks
-
--- What is held is as it was, and so are the blocks that the journal keeps.
-pub record StaysKept {H J : Type 0} (is_clean : J → Type 0) (kept : J → List (List ℕ) → Type 0) (old new : Kept H J) : Type 0 where
-  pub held : held_by new ≡ held_by old
-  pub stays : StaysInJournal old new
-  pub clean : is_clean (journal_of new) → is_clean (journal_of old)
-  pub keeps : (blocks : List (List ℕ)) → kept (journal_of old) blocks → kept (journal_of new) blocks
-
--- All that was answered is kept: the batch is one more block of the journal.
-pub record Commits {H J : Type 0} (is_clean : J → Type 0) (kept : J → List (List ℕ) → Type 0) (old new : Kept H J) : Type 0 where
-  pub held : held_by new ≡ committed (held_by old)
-  pub stays : StaysInJournal old new
-  pub clean : is_clean (journal_of new) → is_clean (journal_of old)
-  pub keeps : (blocks : List (List ℕ)) → kept (journal_of old) blocks
-      → kept (journal_of new) (with_batch blocks (held_by old).batch)
-
--- All that was answered is kept, and the journal begins anew with a snapshot of the state; or it doesn't, since that can't be saved, or the
--- disk has no room for it.
-pub record Saves {H J : Type 0} (saved : H → List ℕ) (is_saveable : H → Type 0) (is_clean : J → Type 0)
-    (kept : J → List (List ℕ) → Type 0) (old new : Kept H J) : Type 0 where
-  pub is_made : Bool
-  pub saveable : IsTrue is_made → is_saveable (held_by old).state
-  pub held : held_by new ≡ committed (held_by old)
-  pub stays : StaysInJournal old new
-  pub clean : is_clean (journal_of new) → is_clean (journal_of old)
-  pub keeps : is_clean (journal_of new) → (blocks : List (List ℕ)) → kept (journal_of old) blocks
-      → kept (journal_of new) (with_snapshot is_made (first_block (preface_of old) (Some (snapshot_of saved (held_by old))))
-      (with_batch blocks (held_by old).batch))
 
 -- ---- a request
 

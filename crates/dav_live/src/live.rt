@@ -64,7 +64,7 @@ impl<D: Disk + Drop> Live<D> {
     ghost use Rattle.dav_turns.specs.Frames.{Order, order_bytes};
     ghost use Rattle.dav_turns.specs.Turns.{Turn};
     ghost use Rattle.dav_live.specs.Answers.{IsAnswer};
-    ghost use Rattle.dav_live.specs.Life.{IsOneRun, IsOpened, RunGoesOn};
+    ghost use Rattle.dav_live.specs.Runs.{IsOneRun, IsOpened, RunGoesOn};
     ghost use Rattle.dav_live.specs.Numbered.{AreNumbered};
     ghost use Rattle.dav_live.specs.LiveRun.{doing, kept_in, service_of, turns_of};
 

@@ -32,9 +32,9 @@ impl<H: Ends + Drop, J: Keeps + Drop> Service<H, J> {
     ghost use Rattle.dav_core.specs.World.{last_moment};
     ghost use Rattle.dav_kept.specs.Kept.{Snapshot, answer_step, held_by, journal_of};
     ghost use Rattle.dav_kept.specs.Life.{IsRunSince};
-    ghost use Rattle.dav_live.specs.Life.{IsOneRun, IsOpened};
+    ghost use Rattle.dav_live.specs.Runs.{IsOneRun, IsOpened, Saves, StaysKept};
     ghost use Rattle.dav_live.specs.Numbered.{AreNumbered};
-    ghost use Rattle.dav_live.specs.Serving.{Saves, StaysAll, StaysKept, admission_of, held_of, kept_of};
+    ghost use Rattle.dav_live.specs.Serving.{StaysAll, admission_of, held_of, kept_of};
 
     /// A service of this handler, as the requests of the journal leave it.
     pub fn open(

@@ -26,7 +26,8 @@ impl<H: Ends + Drop, J: Keeps + Drop> Service<H, J> {
     ghost use Rattle.dav_server.specs.Head.{IsHead};
     ghost use Rattle.dav_live.specs.Numbered.{HasNumber};
     ghost use Rattle.dav_live.specs.Admission.{request_in};
-    ghost use Rattle.dav_live.specs.Serving.{GoesOn, IsResponseTo, IsRun, StaysAll, admission_of, held_of, kept_of};
+    ghost use Rattle.dav_live.specs.Runs.{GoesOn};
+    ghost use Rattle.dav_live.specs.Serving.{IsResponseTo, IsRun, StaysAll, admission_of, held_of, kept_of};
 
     // Answers a request. 400 where the bytes of its head are none (RFC 9110, section 15.5.1).
     fn respond(&mut self, asked: &Asked, response: &mut Response) -> Result<(), Stop>

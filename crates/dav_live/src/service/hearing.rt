@@ -13,7 +13,8 @@ impl<H: Ends + Drop, J: Keeps + Drop> Service<H, J> {
     ghost use Rattle.std.specs.Prelude.{◌≡◌, ◌↔◌, List, ℕ, Some, IfOk, IsFalse, IsTrue, OnOk};
     ghost use Rattle.http_server.specs.declared.response.Response.{Response as Sent};
     ghost use Rattle.dav_kept.specs.Kept.{Holding};
-    ghost use Rattle.dav_live.specs.Serving.{EndsLocks, GoesOn, IsEnded, IsListed, IsMarked, IsRun, admission_of, held_of, kept_of, own_request};
+    ghost use Rattle.dav_live.specs.Runs.{GoesOn};
+    ghost use Rattle.dav_live.specs.Serving.{EndsLocks, IsEnded, IsListed, IsMarked, IsRun, admission_of, held_of, kept_of, own_request};
 
     // Ends the first lock whose time has passed, by a request of the server's own. False where there is none, where there is no
     // room on the disk, and where the request isn't answered 204 (RFC 4918, section 9.11).

@@ -1,8 +1,9 @@
-use Rattle.dav_journal.specs.Journal.{IsKept}
+use Rattle.dav_journal.specs.Pair.{IsCleanPair, IsKeptPair}
+use Rattle.dav_http.specs.Saved.{IsSaveable, saved_bytes}
 use Rattle.dav_live.specs.Answers.{IsAnswer}
-use Rattle.dav_live.specs.Life.{RunGoesOn}
+use Rattle.dav_live.specs.Runs.{RunGoesOn}
 use Rattle.dav_live.specs.LiveRun.{kept_in}
 use Rattle.dav_live.proofs.live.Live.run.Given as goal
 
 abbrev pub invariant-loop : goal.invariant-loop
-invariant-loop g l = RunGoesOn IsAnswer (λ j bs. IsKept g.D.Disk j bs) (kept_in l.fn.self) (kept_in l.self)
+invariant-loop g l = RunGoesOn IsAnswer saved_bytes IsSaveable (λ j. IsCleanPair g.D.Disk j) (λ j bs. IsKeptPair g.D.Disk j bs) (kept_in l.fn.self) (kept_in l.self)

@@ -2,7 +2,8 @@ use Rattle.std.proofs.Common.{ℕ, refl, subst}
 use Rattle.std.proofs.lemmas.Result.{IfOk-weaker}
 use Rattle.http_server.specs.declared.response.Response.{Response}
 use Rattle.dav_live.specs.Serving.{IsRun, admission_of, held_of, kept_of, own_request, stuck}
-use Rattle.dav_live.proofs.ServingLemmas.{ends_at, goes_on_same, not_both}
+use Rattle.dav_live.proofs.RunLemmas.{goes_on_same}
+use Rattle.dav_live.proofs.ServingLemmas.{ends_at, not_both}
 use Rattle.dav_live.proofs.service.Service.end_lock.Goals as goal
 
 pub returns-in-Some-clause-ended : goal.returns-in-Some-clause-ended
@@ -22,4 +23,4 @@ returns-in-Some-clause-last g c =
     IfOk-weaker c.unlock.result _ _ (λ is run no. stuck c.as_bytes.result.now run.0 ends (run_at run.0 run.1) (λ e. not_both is no (run.2.1 e))) c.unlock.ensures.run
 
 pub returns-in-None-clause-goes_on : goal.returns-in-None-clause-goes_on
-returns-in-None-clause-goes_on g c = goes_on_same g.H.Handles.answers g.J.Keeps.kept (kept_of c.args.self.now) c.args.self.now.kept refl
+returns-in-None-clause-goes_on g c = goes_on_same g.H.Handles.answers g.J.Keeps.is_clean g.J.Keeps.kept (kept_of c.args.self.now) c.args.self.now.kept refl

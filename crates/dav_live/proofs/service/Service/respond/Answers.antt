@@ -1,7 +1,7 @@
 use Rattle.std.proofs.Common.{List, ℕ, refl, subst, sym}
 use Rattle.dav_server.specs.Head.{IsHead}
 use Rattle.dav_live.specs.Serving.{kept_of, no_head}
-use Rattle.dav_live.proofs.ServingLemmas.{goes_on_same}
+use Rattle.dav_live.proofs.RunLemmas.{goes_on_same}
 use Rattle.dav_live.proofs.service.Service.respond.Goals as goal
 
 pub returns-in-None-clause-responds : goal.returns-in-None-clause-responds
@@ -10,4 +10,4 @@ returns-in-None-clause-responds g c =
     (record { status = refl; headers = c.requires.headers; body = c.requires.body }) refl
 
 pub returns-in-None-clause-goes_on : goal.returns-in-None-clause-goes_on
-returns-in-None-clause-goes_on g c = goes_on_same g.H.Handles.answers g.J.Keeps.kept (kept_of c.args.self.now) c.args.self.now.kept refl
+returns-in-None-clause-goes_on g c = goes_on_same g.H.Handles.answers g.J.Keeps.is_clean g.J.Keeps.kept (kept_of c.args.self.now) c.args.self.now.kept refl

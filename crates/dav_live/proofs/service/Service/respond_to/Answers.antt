@@ -4,7 +4,8 @@ use Rattle.dav_kept.specs.declared.kept.Kept.{Kept}
 use Rattle.dav_live.specs.Admission.{AdmissionView, IsDecision, IsRequestOf, request_in}
 use Rattle.dav_live.specs.Numbered.{HasNumber}
 use Rattle.dav_live.specs.Serving.{IsRun, held_of, kept_of, run, turned_away}
-use Rattle.dav_live.proofs.ServingLemmas.{goes_on_same, holds_on, number_of}
+use Rattle.dav_live.proofs.RunLemmas.{goes_on_same}
+use Rattle.dav_live.proofs.ServingLemmas.{holds_on, number_of}
 use Rattle.dav_live.proofs.service.Service.respond_to.Goals as goal
 
 pub run-requires-clause-number : goal.run-requires-clause-number
@@ -24,7 +25,7 @@ returns-in_ok-refuse-in-Refused-clause-responds g c =
 
 pub returns-in_ok-refuse-in-Refused-clause-goes_on : goal.returns-in_ok-refuse-in-Refused-clause-goes_on
 returns-in_ok-refuse-in-Refused-clause-goes_on g c =
-    holds_on c.note.result (goes_on_same g.H.Handles.answers g.J.Keeps.kept (kept_of c.args.self.now) (kept_of c.note.new.self) c.note.ensures.1)
+    holds_on c.note.result (goes_on_same g.H.Handles.answers g.J.Keeps.is_clean g.J.Keeps.kept (kept_of c.args.self.now) (kept_of c.note.new.self) c.note.ensures.1)
 
 pub returns-in_ok-run-in-Run-clause-responds : goal.returns-in_ok-run-in-Run-clause-responds
 returns-in_ok-run-in-Run-clause-responds g c =
