@@ -2,6 +2,7 @@ pub mod AdoptLemmas
 pub mod BlockLemmas
 mod ClearLemmas
 mod CutLemmas
+pub mod ElderLemmas
 mod FrontLemmas
 mod JournalLemmas
 mod MarkLemmas

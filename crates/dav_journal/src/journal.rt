@@ -11,6 +11,7 @@ ghost use Rattle.dav_journal.specs.Write.{HasZeros, KeepsBelow};
 
 mod clearing;
 mod cutting;
+mod elder;
 mod keeping;
 mod marks;
 mod reading;

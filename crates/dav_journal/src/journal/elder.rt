@@ -1,0 +1,107 @@
+//! The blocks of a file of the elder format are read.
+ghost use Rattle.std.specs.Prelude.{◌≡◌, ◌≤◌, ◌<◌, ◌+◌, ◌^◌, ◌++◌, ◌∷◌, [], ℕ, List, Some, length, IsTrue, IsFalse, IfOk, IfErr, IfSome, OnOk, MatchOption};
+ghost use Rattle.sqlite_disk.specs.Disk.{Holds};
+ghost use Rattle.dav_journal.specs.Elder.{ElderRecovers, HasReadElder, IsElder, IsNoElder, IsReadingElder, elder_end, elder_head};
+ghost use Rattle.dav_journal.specs.Error.{IsNoDamage};
+ghost use Rattle.dav_journal.specs.Journal.{IsClean, OnlyReads, Stays, blocks_end, blocks_len, disk_of, file_of};
+
+use crate::elder::{ELDER_HEAD, elder_head_bytes, elder_len_in};
+use crate::error::JournalError;
+use crate::journal::Journal;
+use sqlite_disk::Disk;
+use std::alloc::Global;
+
+impl<D: Disk + Drop> Journal<D> {
+    // The content of the next block of a file of the elder format. `None` where no block follows.
+    pub fn next_elder(&mut self, alloc: Global) -> Result<Option<Vec<u8>>, JournalError>
+        ensures reads { OnlyReads D.Disk (disk_of self.old) (disk_of self.new) }
+        ensures read { IfOk result (λ block. IsClean D.Disk self.new → (contents : List (List ℕ))
+            → IsReadingElder D.Disk self.old contents
+            → MatchOption block (HasReadElder D.Disk self.new contents)
+            (λ b. IsReadingElder D.Disk self.new (contents ++ b.items ∷ []))) }
+    {
+        let Some(content) = self.elder_here(alloc)? else {
+            return Ok(None);
+        };
+        self.end += ELDER_HEAD + content.len();
+        Ok(Some(content))
+    }
+
+    // The content of the block after those that were read; `None` where none is there.
+    fn elder_here(&mut self, alloc: Global) -> Result<Option<Vec<u8>>, JournalError>
+        ensures stays { Stays D.Disk self.old self.new }
+        ensures fits { IfOk result (λ block. IfSome block (λ b.
+            blocks_end self.old + 24 + length b.items ≤ blocks_len self.old)) }
+        ensures read { IfOk result (λ block. IsClean D.Disk self.new
+            → length (file_of D.Disk self.old) ≡ blocks_len self.old
+            → MatchOption block
+            (IsNoElder self.old.key (file_of D.Disk self.old) (blocks_end self.old))
+            (λ b. IsElder self.old.key (file_of D.Disk self.old) (blocks_end self.old) b.items)) }
+    {
+        let Some(head) = self.next_elder_head()? else {
+            return Ok(None);
+        };
+        let Some(len) = self.elder_fitting(&head) else {
+            return Ok(None);
+        };
+        let content = self.elder_content(alloc, len)?;
+        if head != elder_head_bytes(self.key, self.end as u64, &content) {
+            return Ok(None);
+        }
+        Ok(Some(content))
+    }
+
+    // The bytes at the end of the blocks that were read, as many as a head has; `None` where the
+    // file has fewer.
+    fn next_elder_head(&mut self) -> Result<Option<[u8; ELDER_HEAD]>, JournalError>
+        ensures stays { Stays D.Disk self.old self.new }
+        ensures head { IfOk result
+            (λ head. MatchOption head (blocks_len self.old < blocks_end self.old + 24)
+            (λ h. (length h ≡ 24) × (blocks_end self.old + 24 ≤ blocks_len self.old)
+            × (IsClean D.Disk self.new
+            → Holds (file_of D.Disk self.old) (blocks_end self.old) h))) }
+    {
+        if self.len < ELDER_HEAD || self.len - ELDER_HEAD < self.end {
+            return Ok(None);
+        }
+        let mut bytes = [0u8; ELDER_HEAD];
+        self.read(self.end, &mut bytes)?;
+        Ok(Some(bytes))
+    }
+
+    // The length that a head has, where it isn't 0 and a content of it fits.
+    fn elder_fitting(&self, head: &[u8; ELDER_HEAD]) -> Option<usize>
+        ensures none { (key place : ℕ) (content : List ℕ) → 0 < length content
+            → length content < 2 ^ 64 → head.now ≡ elder_head key place content
+            → blocks_end self.now + 24 + length content ≤ blocks_len self.now
+            → result ≡ Some (length content) }
+        ensures some { IfSome result (λ n. 0 < n) }
+        ensures within { IfSome result (λ n. blocks_end self.now + 24 + n ≤ blocks_len self.now) }
+        ensures small { IfSome result (λ n. blocks_end self.now + 24 + n < 2 ^ 64) }
+    {
+        let len = usize::try_from(elder_len_in(head)).ok()?;
+        let rest = self.len.checked_sub(self.end)?.checked_sub(ELDER_HEAD)?;
+        if len > 0 && len <= rest {
+            Some(len)
+        } else {
+            None
+        }
+    }
+
+    // So many bytes after a head.
+    fn elder_content(&mut self, alloc: Global, len: usize) -> Result<Vec<u8>, JournalError>
+        requires { blocks_end self.old + 24 + len < 2 ^ 64 }
+        ensures stays { Stays D.Disk self.old self.new }
+        ensures len { IfOk result (λ v. length v.items ≡ len) }
+        ensures read { IfOk result (λ v. IsClean D.Disk self.new → 0 < len
+            → Holds (file_of D.Disk self.old) (blocks_end self.old + 24) v.items) }
+    {
+        let mut content = Vec::new(alloc);
+        content.resize(len, 0u8)?;
+        if !self.disk.may_be_used() {
+            return Err(JournalError::Io);
+        }
+        self.disk.read_at(self.end + ELDER_HEAD, &mut content)?;
+        Ok(content)
+    }
+}
