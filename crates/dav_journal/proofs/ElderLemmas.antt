@@ -1,7 +1,7 @@
 -- Files of the elder format.
-use Rattle.std.proofs.Common.{◌≡◌, ◌≢◌, ◌⊎◌, ℕ, ◌+◌, ◌-◌, ◌<◌, ◌≤◌, ◌^◌, List, [], ◌∷◌, ◌++◌, length, slice_index, Option, Some, None, replicate, codes, sym, refl, ◌∙◌, ap, subst, inl, inr, arith, length-append}
+use Rattle.std.proofs.Common.{◌≡◌, ◌≢◌, ◌⊎◌, ℕ, ◌+◌, ◌-◌, ◌<◌, ◌≤◌, ◌^◌, List, [], ◌∷◌, ◌++◌, length, slice_index, Option, Some, None, replicate, drop, codes, sym, refl, ◌∙◌, ap, subst, inl, inr, arith, length-append}
 use Rattle.std.proofs.lemmas.Bool.{cases_eq, cases_lt}
-use Rattle.std.proofs.lemmas.List.{ext_get_or, get_or_append_left, get_or-append-add}
+use Rattle.std.proofs.lemmas.List.{ext_get_or, get_or_append_left, get_or-append-add, get_or-drop, length-drop, length-replicate}
 use Rattle.std.proofs.lemmas.Nat.{from_be_bytes-to_be_bytes_8}
 use Rattle.std.specs.Int.{w64, to_be_bytes, from_be_bytes}
 use Rattle.std.specs.List.{slice_range}
@@ -10,7 +10,10 @@ use Rattle.sqlite_disk.specs.declared.Disk.{Ghosts}
 use Rattle.dav_journal.specs.declared.journal.Journal.{Journal}
 use Rattle.dav_journal.specs.Elder.{AreElder, ElderRecovers, HasElderFront, HasReadElder, IsElder, IsNoElder, IsReadingElder, elder_bytes, elder_end, elder_head}
 use Rattle.dav_journal.specs.Journal.{Stays}
+use Rattle.dav_journal.specs.Mark.{IsFaint}
+use Rattle.dav_journal.specs.Write.{HasZeros}
 use Rattle.dav_journal.proofs.BlockLemmas.{holds_first, holds_join, no_some, same_held, same_some}
+use Rattle.dav_journal.proofs.WriteLemmas.{zero_at}
 
 pub length-elder : (key place : ℕ) (content : List ℕ) → length (elder_head key place content) ≡ 24
 unfolding elder_head
@@ -106,3 +109,35 @@ pub one_elder_key : (file : List ℕ) (k l : ℕ) → k < 2 ^ 64 → l < 2 ^ 64 
 one_elder_key file k l small fits h g =
     let same = same_held file 8 (to_be_bytes w64 k) (to_be_bytes w64 l) h g refl in
     sym (from_be_bytes-to_be_bytes_8 k small) ∙ ap (from_be_bytes w64) same ∙ from_be_bytes-to_be_bytes_8 l fits
+
+-- digests that are all zeros
+pub zero_digests : (key : ℕ) (former head : List ℕ) → head ≡ elder_head key 16 former → ((i : ℕ) → i < 16 → slice_index (elder_head key 16 former) (8 + i) ≡ 0) → drop 8 head ≡ replicate 16 0
+zero_digests key former head is zeros =
+    ext_get_or 0 (drop 8 head) (replicate 16 0) (length-drop 8 head ∙ omega (arith, ap length is, length-elder key 16 former, length-replicate {A = ℕ} 16 0)) (λ i low.
+    let few : i < 16 = omega (arith, low, length-drop 8 head, ap length is, length-elder key 16 former) in
+    get_or-drop 8 head i 0 ∙ ap (λ (l : List ℕ). slice_index l (8 + i)) is ∙ zeros i few ∙ sym (zero_at 16 i))
+
+-- what a crash left of bytes, as it was read
+pub faint_there : (file : List ℕ) (at : ℕ) (found were : List ℕ) → Holds file at found → length were ≤ length found → IsFaint found 0 were → IsFaint file at were
+faint_there file at found were h long faint i low =
+    let read = h.each i (omega (arith, low, long)) in
+    let here : slice_index found (0 + i) ≡ slice_index found i = ap (slice_index found) (omega arith) in
+    elim (faint i low) [
+      | inl lost ↦ inl (read ∙ sym here ∙ lost)
+      | inr same ↦ inr (read ∙ sym here ∙ same)
+    ]
+
+pub faint_found : (file : List ℕ) (at : ℕ) (found were : List ℕ) → Holds file at found → length were ≤ length found → IsFaint file at were → IsFaint found 0 were
+faint_found file at found were h long faint i low =
+    let read = h.each i (omega (arith, low, long)) in
+    let here : slice_index found (0 + i) ≡ slice_index found i = ap (slice_index found) (omega arith) in
+    elim (faint i low) [
+      | inl lost ↦ inl (here ∙ sym read ∙ lost)
+      | inr same ↦ inr (here ∙ sym read ∙ same)
+    ]
+
+-- a version of zeros, as it was read
+pub zero_version : (file found : List ℕ) → Holds file 0 found → length found ≡ 8 → HasZeros file 0 8 → found ≡ replicate 8 0
+zero_version file found h long zeros =
+    ext_get_or 0 found (replicate 8 0) (long ∙ sym (length-replicate {A = ℕ} 8 0)) (λ i low.
+    sym (h.each i low) ∙ zeros.1 (0 + i) (omega arith) (omega (arith, low, long)) ∙ sym (zero_at 8 i))

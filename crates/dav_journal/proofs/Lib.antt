@@ -3,7 +3,9 @@ pub mod BlockLemmas
 mod ClearLemmas
 mod CutLemmas
 pub mod ElderLemmas
+pub mod ElderPairLemmas
 mod FrontLemmas
+mod GoingLemmas
 mod JournalLemmas
 mod MarkLemmas
 mod MixedLemmas

@@ -1,6 +1,6 @@
 -- The elder format, of the files that begin with `vuldarg1`: one file, its blocks without gates and
 -- marks. How it is read, and how such a file becomes the first of a pair.
-use Rattle.std.specs.Prelude.{◌≡◌, ◌⊎◌, ℕ, ◌+◌, ◌<◌, ◌^◌, List, [], ◌∷◌, ◌++◌, length, replicate, codes}
+use Rattle.std.specs.Prelude.{◌≡◌, ◌⊎◌, ℕ, ◌+◌, ◌<◌, ◌≤◌, ◌^◌, List, [], ◌∷◌, ◌++◌, length, codes, IsTrue}
 use Rattle.std.specs.Int.{w64, to_be_bytes}
 use Rattle.sqlite_disk.specs.Digest.{digest}
 use Rattle.sqlite_disk.specs.Disk.{Holds, Only}
@@ -11,7 +11,7 @@ use Rattle.dav_journal.specs.Block.{digest_at}
 use Rattle.dav_journal.specs.File.{IsBegun, Recovers}
 use Rattle.dav_journal.specs.Journal.{disk_of}
 use Rattle.dav_journal.specs.Mark.{IsFaint}
-use Rattle.dav_journal.specs.Pair.{PairRecovers}
+use Rattle.dav_journal.specs.Write.{HasZeros}
 
 -- the 24 bytes of a block's head: the length of the content, its digest, and the head's own
 unfoldable pub elder_head : ℕ → ℕ → List ℕ → List ℕ
@@ -79,7 +79,44 @@ pub record HasReadElder {D : Type 0} (g : Ghosts D) (j : Journal D) (contents : 
 pub record IsLetGo (former file : List ℕ) : Type 0 where
   pub key : ℕ
   pub small : key < 2 ^ 64
-  pub version : Holds file 0 (replicate 8 0)
+  pub whole : 40 ≤ length file
+  pub version : HasZeros file 0 8
   pub key_there : Holds file 8 (to_be_bytes w64 key)
   pub faint : IsFaint file 16 (elder_head key 16 former)
   pub lost : ¬ Holds file 16 (elder_head key 16 former)
+
+-- a file of the elder format stands for a first block and these after it, or was let go
+abbrev pub IsGoing : List ℕ → List (List ℕ) → List ℕ → Type 0
+IsGoing former blocks file = ElderRecovers file (former ∷ blocks) ⊎ IsLetGo former file
+
+-- what is left in the end of a file that was let go: 73 bytes, of which all are zeros but 16
+pub record IsEmptied (file : List ℕ) : Type 0 where
+  pub whole : length file ≡ 73
+  pub version : HasZeros file 0 8
+  pub rest : HasZeros file 24 73
+
+-- each disk of this kind is mixing
+abbrev pub Mixes : {D : Type 0} → Ghosts D → Type 0
+Mixes {D} g = (disk : D) → IsTrue (g.is_mixing disk)
+
+-- Two files stand for a first block and these after it: by the first one, of the elder format, or,
+-- where that was let go, by the other one, in which another block is before them.
+abbrev pub AreGoing : List ℕ → List ℕ → List (List ℕ) → List ℕ → List ℕ → Type 0
+AreGoing former first blocks file other =
+    ElderRecovers file (former ∷ blocks)
+    ⊎ (IsLetGo former file × Recovers other ((to_be_bytes w64 0 ++ first) ∷ blocks))
+
+-- whatever a crash leaves of both files, they are such ones
+abbrev pub LeavesGoing : {D : Type 0} → Ghosts D → Pair D → List ℕ → List ℕ → List (List ℕ)
+    → Type 0
+LeavesGoing g p former first blocks =
+    (c d : List ℕ) → g.may_leave (disk_of p.counts) c → g.may_leave (disk_of p.spare) d
+    → AreGoing former first blocks c d
+
+-- the same, or of the first one is left what `open` makes a journal of
+abbrev pub LeavesGone : {D : Type 0} → Ghosts D → Pair D → List ℕ → List ℕ → List (List ℕ)
+    → Type 0
+LeavesGone g p former first blocks =
+    (c d : List ℕ) → g.may_leave (disk_of p.counts) c → g.may_leave (disk_of p.spare) d
+    → AreGoing former first blocks c d
+    ⊎ (IsBegun c × Recovers d ((to_be_bytes w64 0 ++ first) ∷ blocks))

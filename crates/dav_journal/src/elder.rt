@@ -43,6 +43,18 @@ pub fn elder_head_bytes(key: u64, place: u64, content: &[u8]) -> [u8; ELDER_HEAD
     three_bytes(len, told, digest_of_head(key, place, len, told))
 }
 
+// The number that has these bytes.
+pub fn number_in(bytes: &[u8; 8]) -> Option<u64>
+    ensures { IfSome result (λ n. bytes.now ≡ to_be_bytes w64 n) }
+{
+    let n = number(bytes);
+    if *bytes == n.to_be_bytes() {
+        Some(n)
+    } else {
+        None
+    }
+}
+
 // The length that a head tells.
 pub fn elder_len_in(head: &[u8; ELDER_HEAD]) -> u64
     ensures { (key place : ℕ) (content : List ℕ) → length content < 2 ^ 64

@@ -13,6 +13,7 @@ mod clearing;
 mod cutting;
 mod elder;
 mod keeping;
+mod leaving;
 mod marks;
 mod reading;
 #[cfg(test)]

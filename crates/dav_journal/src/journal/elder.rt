@@ -1,17 +1,88 @@
 //! The blocks of a file of the elder format are read.
 ghost use Rattle.std.specs.Prelude.{◌≡◌, ◌≤◌, ◌<◌, ◌+◌, ◌^◌, ◌++◌, ◌∷◌, [], ℕ, List, Some, length, IsTrue, IsFalse, IfOk, IfErr, IfSome, OnOk, MatchOption};
 ghost use Rattle.sqlite_disk.specs.Disk.{Holds};
-ghost use Rattle.dav_journal.specs.Elder.{ElderRecovers, HasReadElder, IsElder, IsNoElder, IsReadingElder, elder_end, elder_head};
+ghost use Rattle.dav_journal.specs.Elder.{HasElderFront, HasReadElder, IsElder, IsLetGo, IsNoElder, IsReadingElder, elder_head};
 ghost use Rattle.dav_journal.specs.Error.{IsNoDamage};
 ghost use Rattle.dav_journal.specs.Journal.{IsClean, OnlyReads, Stays, blocks_end, blocks_len, disk_of, file_of};
 
-use crate::elder::{ELDER_HEAD, elder_head_bytes, elder_len_in};
+use crate::elder::{
+    ELDER_FRONT, ELDER_HEAD, ELDER_VERSION, elder_head_bytes, elder_len_in, is_faint, number_in,
+};
 use crate::error::JournalError;
 use crate::journal::Journal;
 use sqlite_disk::Disk;
 use std::alloc::Global;
 
+/// So many bytes a file of the elder format has at least that has a first block.
+const FIRST: usize = 40;
+
 impl<D: Disk + Drop> Journal<D> {
+    // Opens a file of the elder format, and tells whether it is one that may have a block. It is
+    // only read.
+    pub fn open_elder(&mut self) -> Result<bool, JournalError>
+        ensures reads { OnlyReads D.Disk (disk_of self.old) (disk_of self.new) }
+        ensures reading { IfOk result (λ is. IsTrue is → IsClean D.Disk self.new
+            → IsReadingElder D.Disk self.new []) }
+        ensures another { IfOk result (λ is. IsFalse is → IsClean D.Disk self.new → (key : ℕ)
+            → HasElderFront key (file_of D.Disk self.old)
+            → 40 ≤ length (file_of D.Disk self.old) → ⊥) }
+    {
+        if !self.disk.may_be_used() {
+            return Err(JournalError::Io);
+        }
+        self.disk.sync()?;
+        let len = self.disk.len()?;
+        if len < FIRST {
+            return Ok(false);
+        }
+        let mut version = [0u8; 8];
+        self.disk.read_at(0, &mut version)?;
+        if !is_faint(&version, &ELDER_VERSION) {
+            return Ok(false);
+        }
+        let mut key = [0u8; 8];
+        self.disk.read_at(8, &mut key)?;
+        let Some(key) = number_in(&key) else {
+            return Err(JournalError::Io);
+        };
+        self.key = key;
+        self.end = ELDER_FRONT;
+        self.len = len;
+        Ok(true)
+    }
+
+    // Whether a file that was opened so, and whose first block had this content, was let go.
+    pub fn is_let_go(&mut self, former: &[u8]) -> Result<bool, JournalError>
+        ensures stays { Stays D.Disk self.old self.new }
+        ensures is { IfOk result (λ is. IsTrue is → IsClean D.Disk self.new
+            → IsReadingElder D.Disk self.old [] → IsLetGo former.now (file_of D.Disk self.old)) }
+        ensures other { IfOk result (λ is. IsFalse is → IsClean D.Disk self.new
+            → IsReadingElder D.Disk self.old []
+            → IsLetGo former.now (file_of D.Disk self.old) → ⊥) }
+    {
+        let mut version = [0u8; 8];
+        self.read(0, &mut version)?;
+        let mut head = [0u8; ELDER_HEAD];
+        self.read(ELDER_FRONT, &mut head)?;
+        let was = elder_head_bytes(self.key, ELDER_FRONT as u64, former);
+        if version != [0; 8] {
+            return Ok(false);
+        }
+        if head == was {
+            return Ok(false);
+        }
+        Ok(is_faint(&head, &was))
+    }
+
+    // Whether the file has the version of the elder format, whole.
+    pub fn has_elder_version(&mut self) -> Result<bool, JournalError>
+        ensures stays { Stays D.Disk self.old self.new }
+    {
+        let mut version = [0u8; 8];
+        self.read(0, &mut version)?;
+        Ok(version == ELDER_VERSION)
+    }
+
     // The content of the next block of a file of the elder format. `None` where no block follows.
     pub fn next_elder(&mut self, alloc: Global) -> Result<Option<Vec<u8>>, JournalError>
         ensures reads { OnlyReads D.Disk (disk_of self.old) (disk_of self.new) }

@@ -1,0 +1,44 @@
+-- A file of the elder format is taken over.
+use Rattle.std.proofs.Common.{◌≡◌, ◌⊎◌, ℕ, ◌≤◌, ◌<◌, ◌^◌, Bool, true, false, IsTrue, IsFalse, List, [], ◌∷◌, ◌++◌, length, refl, sym, ◌∙◌, ap, subst, inl, inr, arith}
+use Rattle.sqlite_disk.specs.declared.Disk.{Ghosts}
+use Rattle.dav_journal.specs.declared.journal.Journal.{Journal}
+use Rattle.dav_journal.specs.Elder.{AreElder, AreGoing, ElderRecovers, HasElderFront, HasReadElder, IsElder, IsLetGo, IsNoElder, IsReadingElder, elder_head}
+use Rattle.dav_journal.proofs.BlockLemmas.{holds_first}
+use Rattle.dav_journal.proofs.ElderLemmas.{one_elder_key, one_elder_list}
+use Rattle.dav_journal.proofs.GoingLemmas.{at_front, first_head, going_long}
+use Rattle.sqlite_disk.specs.Disk.{Holds}
+
+pub sure : (b : Bool) → (IsFalse b → ⊥) → IsTrue b
+sure true other = refl
+sure false other = absurd (other refl)
+
+-- a file that was let go still has the front
+pub let_go_front : (former file : List ℕ) (r : IsLetGo former file) → HasElderFront r.key file
+let_go_front former file r = record {
+  version = λ i low. inl (at_front file i ∙ r.version.1 i (omega arith) low);
+  key_there = r.key_there;
+}
+
+-- what was read is of this file
+pub read_nothing : {D : Type 0} (g : Ghosts D) (j : Journal D) (former : List ℕ) (blocks : List (List ℕ)) → HasReadElder g j [] → ElderRecovers (g.seen j.disk) (former ∷ blocks) → ⊥
+read_nothing g j former blocks read r =
+    let key = one_elder_key (g.seen j.disk) r.key j.key r.small read.reading.small r.front.key_there read.reading.front.key_there in
+    read.nothing former (subst (λ p. IsElder j.key (g.seen j.disk) p former) read.reading.blocks (subst (λ k. IsElder k (g.seen j.disk) 16 former) key (r.blocks.0)))
+
+pub read_elder_blocks : {D : Type 0} (g : Ghosts D) (j : Journal D) (xs ys : List (List ℕ)) → HasReadElder g j xs → ElderRecovers (g.seen j.disk) ys → ys ≡ xs
+read_elder_blocks g j xs ys read r =
+    let key = one_elder_key (g.seen j.disk) r.key j.key r.small read.reading.small r.front.key_there read.reading.front.key_there in
+    one_elder_list j.key (g.seen j.disk) 16 ys xs r.end j.end (subst (λ k. AreElder k (g.seen j.disk) 16 ys r.end) key r.blocks) read.reading.blocks (subst (λ k. IsNoElder k (g.seen j.disk) r.end) key r.nothing) read.nothing
+
+-- a file whose first block was read wasn't let go
+pub not_let_go : {D : Type 0} (g : Ghosts D) (j : Journal D) (former : List ℕ) (blocks : List (List ℕ)) → IsReadingElder g j (former ∷ blocks) → IsLetGo former (g.seen j.disk) → ⊥
+not_let_go g j former blocks reading r =
+    let key = one_elder_key (g.seen j.disk) j.key r.key reading.small r.small reading.front.key_there r.key_there in
+    r.lost (subst (λ k. Holds (g.seen j.disk) 16 (elder_head k 16 former)) key (holds_first (g.seen j.disk) 16 (elder_head j.key 16 former) former reading.blocks.0.holds))
+
+abbrev rest : List (List ℕ) → List (List ℕ)
+rest [] = []
+rest (b ∷ bs) = bs
+
+pub same_rest : (x : List ℕ) (xs ys : List (List ℕ)) → x ∷ xs ≡ x ∷ ys → xs ≡ ys
+same_rest x xs ys e = ap rest e
