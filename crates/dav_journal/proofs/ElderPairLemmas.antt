@@ -8,9 +8,11 @@ use Rattle.dav_journal.proofs.ElderLemmas.{one_elder_key, one_elder_list}
 use Rattle.dav_journal.proofs.GoingLemmas.{at_front, first_head, going_long}
 use Rattle.sqlite_disk.specs.Disk.{Holds}
 
-pub sure : (b : Bool) → (IsFalse b → ⊥) → IsTrue b
-sure true other = refl
-sure false other = absurd (other refl)
+-- a file that was let go doesn't stand for its blocks any more
+pub not_going : (file former : List ℕ) (blocks : List (List ℕ)) → ElderRecovers file (former ∷ blocks) → IsLetGo former file → ⊥
+not_going file former blocks r gone =
+    let key = one_elder_key file r.key gone.key r.small gone.small r.front.key_there gone.key_there in
+    gone.lost (subst (λ k. Holds file 16 (elder_head k 16 former)) key (first_head former blocks file r))
 
 -- a file that was let go still has the front
 pub let_go_front : (former file : List ℕ) (r : IsLetGo former file) → HasElderFront r.key file

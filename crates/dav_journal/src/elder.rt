@@ -77,3 +77,13 @@ pub fn is_faint(found: &[u8], were: &[u8]) -> bool
     }
     true
 }
+
+// Whether bytes begin with the head of a block at this place, of whatever content.
+pub fn is_any_head(key: u64, place: u64, bytes: &[u8]) -> bool {
+    let (Some(len), Some(told), Some(own)) = (bytes.get(..8), bytes.get(8..16), bytes.get(16..24))
+    else {
+        return false;
+    };
+    let (len, told, own) = (number(len), number(told), number(own));
+    len != 0 && digest_of_head(key, place, len, told) == own
+}

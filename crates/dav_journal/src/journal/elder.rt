@@ -6,10 +6,11 @@ ghost use Rattle.dav_journal.specs.Error.{IsNoDamage};
 ghost use Rattle.dav_journal.specs.Journal.{IsClean, OnlyReads, Stays, blocks_end, blocks_len, disk_of, file_of};
 
 use crate::elder::{
-    ELDER_FRONT, ELDER_HEAD, ELDER_VERSION, elder_head_bytes, elder_len_in, is_faint, number_in,
+    ELDER_FRONT, ELDER_HEAD, ELDER_VERSION, elder_head_bytes, elder_len_in, is_any_head, is_faint,
+    number_in,
 };
 use crate::error::JournalError;
-use crate::journal::Journal;
+use crate::journal::{Journal, PIECE};
 use sqlite_disk::Disk;
 use std::alloc::Global;
 
@@ -74,16 +75,21 @@ impl<D: Disk + Drop> Journal<D> {
         Ok(is_faint(&head, &was))
     }
 
-    // Whether the file has the version of the elder format, whole.
-    pub fn has_elder_version(&mut self) -> Result<bool, JournalError>
+    // Makes sure that a file without a first block hasn't the version of the elder format, whole.
+    // `Damaged` where it has.
+    pub fn see_no_version(&mut self) -> Result<(), JournalError>
         ensures stays { Stays D.Disk self.old self.new }
     {
         let mut version = [0u8; 8];
         self.read(0, &mut version)?;
-        Ok(version == ELDER_VERSION)
+        if version == ELDER_VERSION {
+            return Err(JournalError::Damaged(self.end));
+        }
+        Ok(())
     }
 
     // The content of the next block of a file of the elder format. `None` where no block follows.
+    // `Damaged` where none follows, and the head of one is further behind.
     pub fn next_elder(&mut self, alloc: Global) -> Result<Option<Vec<u8>>, JournalError>
         ensures reads { OnlyReads D.Disk (disk_of self.old) (disk_of self.new) }
         ensures read { IfOk result (λ block. IsClean D.Disk self.new → (contents : List (List ℕ))
@@ -92,6 +98,7 @@ impl<D: Disk + Drop> Journal<D> {
             (λ b. IsReadingElder D.Disk self.new (contents ++ b.items ∷ []))) }
     {
         let Some(content) = self.elder_here(alloc)? else {
+            self.see_elder_end()?;
             return Ok(None);
         };
         self.end += ELDER_HEAD + content.len();
@@ -175,4 +182,39 @@ impl<D: Disk + Drop> Journal<D> {
         self.disk.read_at(self.end + ELDER_HEAD, &mut content)?;
         Ok(content)
     }
+
+    // Makes sure that no head of a block is behind the end of the blocks that were read.
+    fn see_elder_end(&mut self) -> Result<(), JournalError>
+        ensures stays { Stays D.Disk self.old self.new }
+    {
+        let mut piece = [0u8; PIECE];
+        let mut at = self.end.saturating_add(1);
+        while at < self.len {
+            let count = PIECE.min(self.len - at);
+            if count < ELDER_HEAD {
+                return Ok(());
+            }
+            let window = &mut piece[..count];
+            self.read(at, window)?;
+            if has_head(self.key, at as u64, window) {
+                return Err(JournalError::Damaged(self.end));
+            }
+            at += count - ELDER_HEAD + 1;
+        }
+        Ok(())
+    }
+}
+
+// Whether the head of a block, of whatever content, is in these bytes, which are at this place.
+fn has_head(key: u64, place: u64, bytes: &[u8]) -> bool {
+    let mut at = place;
+    let mut rest = bytes;
+    while let [_, after @ ..] = rest {
+        if is_any_head(key, at, rest) {
+            return true;
+        }
+        at = at.saturating_add(1);
+        rest = after;
+    }
+    false
 }

@@ -1,12 +1,11 @@
 //! A file of the elder format is taken over.
 ghost use Rattle.std.specs.Prelude.{◌≡◌, ◌++◌, ◌∷◌, [], ℕ, List, IsTrue, IsFalse, IfOk, OnOk};
 ghost use Rattle.std.specs.Int.{w64, to_be_bytes};
-ghost use Rattle.dav_journal.specs.Elder.{HasReadElder, IsGoing, IsLetGo, IsReadingElder, LeavesGoing, LeavesGone, Mixes};
+ghost use Rattle.dav_journal.specs.Elder.{HasReadElder, IsGoing, IsReadingElder, LeavesGoing, LeavesGone, Mixes};
 ghost use Rattle.dav_journal.specs.File.{Recovers};
 ghost use Rattle.dav_journal.specs.Journal.{IsClean, IsKept, LeavesOnly, OnlyReads, disk_of, file_of};
 ghost use Rattle.dav_journal.specs.Pair.{IsCleanPair, PairLeavesOnly, counting, spare_of};
 
-use crate::elder::ELDER_FRONT;
 use crate::error::JournalError;
 use crate::journal::Journal;
 use crate::pair::Pair;
@@ -72,51 +71,19 @@ impl<D: Disk + Drop> Pair<D> {
         if !self.counts.open_elder()? {
             return Ok(false);
         }
+        if self.counts.is_let_go(former)? {
+            see_first(&mut self.spare, alloc, first)?;
+            return Ok(true);
+        }
         let Some(block) = self.counts.next_elder(alloc)? else {
-            return self.see_let_go(alloc, former, first);
+            self.counts.see_no_version()?;
+            return Ok(false);
         };
         if block.as_slice() != former {
             return Err(JournalError::Foreign);
         }
         self.copy_whole(alloc, former, first)?;
         Ok(true)
-    }
-
-    // Whether a file of the elder format that has no first block was let go: then its blocks are in
-    // the other file. `Damaged` where it wasn't, and has the version.
-    fn see_let_go(
-        &mut self,
-        alloc: Global,
-        former: &[u8],
-        first: &[u8],
-    ) -> Result<bool, JournalError>
-        ensures clean { IsCleanPair D.Disk self.new → IsCleanPair D.Disk self.old }
-        ensures reads { OnlyReads D.Disk (disk_of (counting self.old))
-            (disk_of (counting self.new)) }
-        ensures stands { IsCleanPair D.Disk self.new → (contents : List (List ℕ))
-            → Recovers (file_of D.Disk (spare_of self.old)) contents
-            → OnlyReads D.Disk (disk_of (spare_of self.old)) (disk_of (spare_of self.new)) }
-        ensures reading { (contents : List (List ℕ))
-            → IsReadingElder D.Disk (counting self.old) contents
-            → IsReadingElder D.Disk (counting self.new) contents }
-        ensures another { IfOk result (λ is. IsFalse is
-            → spare_of self.new ≡ spare_of self.old) }
-        ensures other { IfOk result (λ is. IsFalse is → IsCleanPair D.Disk self.new
-            → IsReadingElder D.Disk (counting self.old) []
-            → IsLetGo former.now (file_of D.Disk (counting self.old)) → ⊥) }
-    {
-        if !self.counts.is_let_go(former)? {
-            if self.counts.has_elder_version()? {
-                return Err(JournalError::Damaged(ELDER_FRONT));
-            }
-            return Ok(false);
-        }
-        let block = first_block(alloc, 0, first)?;
-        if begins_with(&mut self.spare, alloc, &block)? {
-            Ok(true)
-        } else {
-            Err(JournalError::Foreign)
-        }
     }
 
     // Writes the blocks of a file of the elder format after its first one, which is this, to the
@@ -137,6 +104,25 @@ impl<D: Disk + Drop> Pair<D> {
         copy_elder_blocks(&mut self.counts, &mut self.spare, alloc)?;
         self.spare.keep_mark()?;
         Ok(())
+    }
+}
+
+// Makes sure that a journal begins with this content, as one of the first generation.
+fn see_first<D: Disk + Drop>(
+    journal: &mut Journal<D>,
+    alloc: Global,
+    first: &[u8],
+) -> Result<(), JournalError>
+    ensures clean { IsClean D.Disk journal.new → IsClean D.Disk journal.old }
+    ensures stands { IsClean D.Disk journal.new → (contents : List (List ℕ))
+        → Recovers (file_of D.Disk journal.old) contents
+        → OnlyReads D.Disk (disk_of journal.old) (disk_of journal.new) }
+{
+    let block = first_block(alloc, 0, first)?;
+    if begins_with(journal, alloc, &block)? {
+        Ok(())
+    } else {
+        Err(JournalError::Foreign)
     }
 }
 

@@ -1,12 +1,14 @@
 use Rattle.std.proofs.Common.{◌≡◌, ℕ, ◌+◌, [], ◌∷◌, ◌++◌, List, length, sym, ◌∙◌, subst, arith}
 use Rattle.dav_journal.specs.Elder.{AreElder, elder_end}
 use Rattle.dav_journal.proofs.ElderLemmas.{elder_more, elder_stays}
+use Rattle.dav_journal.proofs.JournalLemmas.{stays_then}
 use Rattle.dav_journal.proofs.journal.Journal.next_elder.Goals as goal
 
 pub returns-in_default-clause-read : goal.returns-in_default-clause-read
 returns-in_default-clause-read g c clean contents reading =
-    let stays = c.elder_here.ensures.stays in
-    let nothing = rw c.in_default.is at c.in_ok-content.ensures.read clean reading.whole in
+    let later = c.see_elder_end.ensures.stays in
+    let stays = stays_then g.D.Disk _ _ _ c.elder_here.ensures.stays later in
+    let nothing = rw c.in_default.is at c.in_ok-content.ensures.read (later.reads.clean clean) reading.whole in
     record {
       reading = elder_stays g.D.Disk _ _ contents stays reading;
       nothing = rw (stays.reads.seen, stays.key, stays.end) nothing;
