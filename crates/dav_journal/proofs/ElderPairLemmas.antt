@@ -1,9 +1,12 @@
 -- A file of the elder format is taken over.
-use Rattle.std.proofs.Common.{◌≡◌, ◌⊎◌, ℕ, ◌≤◌, ◌<◌, ◌^◌, Bool, true, false, IsTrue, IsFalse, List, [], ◌∷◌, ◌++◌, length, refl, sym, ◌∙◌, ap, subst, inl, inr, arith}
+use Rattle.std.proofs.Common.{◌≡◌, ◌⊎◌, ℕ, ◌+◌, ◌≤◌, ◌<◌, ◌^◌, List, [], ◌∷◌, ◌++◌, length, slice_index, codes, refl, sym, ◌∙◌, ap, subst, inl, inr, arith}
+use Rattle.std.proofs.lemmas.List.{get_or_append_left}
 use Rattle.sqlite_disk.specs.declared.Disk.{Ghosts}
 use Rattle.dav_journal.specs.declared.journal.Journal.{Journal}
+use Rattle.dav_journal.specs.Block.{twice}
+use Rattle.dav_journal.specs.File.{Recovers}
 use Rattle.dav_journal.specs.Elder.{AreElder, AreGoing, ElderRecovers, HasElderFront, HasReadElder, IsElder, IsLetGo, IsNoElder, IsReadingElder, elder_head}
-use Rattle.dav_journal.proofs.BlockLemmas.{holds_first}
+use Rattle.dav_journal.proofs.BlockLemmas.{holds_first, length-front}
 use Rattle.dav_journal.proofs.ElderLemmas.{one_elder_key, one_elder_list}
 use Rattle.dav_journal.proofs.GoingLemmas.{at_front, first_head, going_long}
 use Rattle.sqlite_disk.specs.Disk.{Holds}
@@ -44,3 +47,16 @@ rest (b ∷ bs) = bs
 
 pub same_rest : (x : List ℕ) (xs ys : List (List ℕ)) → x ∷ xs ≡ x ∷ ys → xs ≡ ys
 same_rest x xs ys e = ap rest e
+
+-- a journal has another version
+pub not_newer : {D : Type 0} (g : Ghosts D) (j : Journal D) (file : List ℕ) (contents xs : List (List ℕ)) → IsReadingElder g j xs → g.seen j.disk ≡ file → Recovers file contents → ⊥
+not_newer g j file contents xs reading same r =
+    let seven : slice_index file (0 + 7) ≡ 50 = r.front.each 7 (omega (arith, length-front r.key)) ∙ get_or_append_left (codes "vuldarg2") (twice r.key) 0 7 (omega arith) in
+    let here : slice_index (g.seen j.disk) (0 + 7) ≡ 50 = ap (λ (f : List ℕ). slice_index f (0 + 7)) same ∙ seven in
+    elim (reading.front.version 7 (omega arith)) [
+      | inl lost ↦ absurd (omega (arith, here, lost))
+      | inr kept ↦ absurd (differ (sym here ∙ kept))
+    ]
+  where
+    differ : 50 ≡ slice_index (codes "vuldarg1") 7 → ⊥
+    differ e = absurd (omega (arith, e))

@@ -34,6 +34,10 @@ impl<D: Disk + Drop> Pair<D> {
         ensures any_moment { Mixes D.Disk → IsCleanPair D.Disk self.new
             → (blocks : List (List ℕ)) → LeavesGoing D.Disk self.old former.now first.now blocks
             → LeavesGone D.Disk self.new former.now first.now blocks }
+        ensures newer { IsCleanPair D.Disk self.new → (contents : List (List ℕ))
+            → Recovers (file_of D.Disk (counting self.old)) contents
+            → OnlyReads D.Disk (disk_of (counting self.old)) (disk_of (counting self.new))
+            × (spare_of self.new ≡ spare_of self.old) × IfOk result IsFalse }
         ensures another { IfOk result (λ is. IsFalse is → IsCleanPair D.Disk self.new
             → (contents : List (List ℕ)) → PairLeavesOnly D.Disk self.old contents
             → PairLeavesOnly D.Disk self.new contents) }
@@ -64,6 +68,10 @@ impl<D: Disk + Drop> Pair<D> {
             × IsGoing former.now blocks (file_of D.Disk (counting self.new))
             × LeavesOnly D.Disk (spare_of self.new)
             ((to_be_bytes w64 0 ++ first.now) ∷ blocks)) }
+        ensures newer { IsCleanPair D.Disk self.new → (contents : List (List ℕ))
+            → Recovers (file_of D.Disk (counting self.old)) contents
+            → OnlyReads D.Disk (disk_of (counting self.old)) (disk_of (counting self.new))
+            × (spare_of self.new ≡ spare_of self.old) × IfOk result IsFalse }
         ensures another { IfOk result (λ is. IsFalse is
             → OnlyReads D.Disk (disk_of (counting self.old)) (disk_of (counting self.new))
             × (spare_of self.new ≡ spare_of self.old)) }

@@ -35,3 +35,19 @@ returns-clause-adopted g c clean blocks leaves =
       refl,
       (λ left other may might. taken_over left other c.args.first.now blocks (c.in_ok-let_go.ensures.gone contents reading blocks going left may) (copy other might)),
     )
+
+pub returns-in_err-copy_elder-clause-newer : goal.returns-in_err-copy_elder-clause-newer
+returns-in_err-copy_elder-clause-newer g c clean contents r = let both = c.copy_elder.ensures.newer clean contents r in (both.0, both.1, search rules)
+
+pub returns-then-not-branch-clause-newer : goal.returns-then-not-branch-clause-newer
+returns-then-not-branch-clause-newer g c clean contents r = let both = c.copy_elder.ensures.newer clean contents r in (both.0, both.1, refl)
+
+pub returns-in_err-let_go-clause-newer : goal.returns-in_err-let_go-clause-newer
+returns-in_err-let_go-clause-newer g c clean contents r =
+    let is = (c.in_ok-copy_elder.ensures.newer (c.let_go.ensures.clean (clean.0), clean.1) contents r).2 in
+    absurd (search (rules, is, c.if-not-branch.false))
+
+pub returns-clause-newer : goal.returns-clause-newer
+returns-clause-newer g c clean contents r =
+    let is = (c.in_ok-copy_elder.ensures.newer (c.let_go.ensures.clean (clean.0), clean.1) contents r).2 in
+    absurd (search (rules, is, c.if-not-branch.false))

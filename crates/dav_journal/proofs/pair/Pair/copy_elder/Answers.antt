@@ -3,7 +3,7 @@ use Rattle.std.specs.Int.{w64, to_be_bytes}
 use Rattle.dav_journal.specs.Elder.{ElderRecovers, IsGoing, IsReadingElder}
 use Rattle.dav_journal.specs.File.{Recovers}
 use Rattle.dav_journal.proofs.ElderLemmas.{elder_stays}
-use Rattle.dav_journal.proofs.ElderPairLemmas.{let_go_front, not_going, not_let_go, read_elder_blocks, read_nothing, same_rest}
+use Rattle.dav_journal.proofs.ElderPairLemmas.{let_go_front, not_going, not_let_go, not_newer, read_elder_blocks, read_nothing, same_rest}
 use Rattle.dav_journal.proofs.GoingLemmas.{going_long}
 use Rattle.dav_journal.proofs.PairLemmas.{kept_recovers, reads_then}
 use Rattle.dav_journal.proofs.pair.Pair.copy_elder.Goals as goal
@@ -121,3 +121,48 @@ returns-clause-copied g c clean blocks leaves =
           )
       | inr (gone, copy) ↦ absurd (not_let_go g.D.Disk _ c.args.former.now more read.reading (rw all.seen gone))
     ]
+
+pub returns-in_err-is_let_go-clause-newer : goal.returns-in_err-is_let_go-clause-newer
+returns-in_err-is_let_go-clause-newer g c clean contents r =
+    let first = c.in_ok-open_elder.ensures.reading (search rules) (c.is_let_go.ensures.stays.reads.clean (clean.0)) in
+    absurd (not_newer g.D.Disk _ _ contents [] first c.open_elder.ensures.reads.seen r)
+
+pub returns-in_err-see_first-clause-newer : goal.returns-in_err-see_first-clause-newer
+returns-in_err-see_first-clause-newer g c clean contents r =
+    let first = c.in_ok-open_elder.ensures.reading (search rules) (c.is_let_go.ensures.stays.reads.clean (clean.0)) in
+    absurd (not_newer g.D.Disk _ _ contents [] first c.open_elder.ensures.reads.seen r)
+
+pub returns-then-branch-clause-newer : goal.returns-then-branch-clause-newer
+returns-then-branch-clause-newer g c clean contents r =
+    let first = c.in_ok-open_elder.ensures.reading (search rules) (c.is_let_go.ensures.stays.reads.clean (clean.0)) in
+    absurd (not_newer g.D.Disk _ _ contents [] first c.open_elder.ensures.reads.seen r)
+
+pub returns-in_err-block-clause-newer : goal.returns-in_err-block-clause-newer
+returns-in_err-block-clause-newer g c clean contents r =
+    let first = c.in_ok-open_elder.ensures.reading (search rules) (c.is_let_go.ensures.stays.reads.clean (c.next_elder.ensures.reads.clean (clean.0))) in
+    absurd (not_newer g.D.Disk _ _ contents [] first c.open_elder.ensures.reads.seen r)
+
+pub returns-in_err-see_no_version-clause-newer : goal.returns-in_err-see_no_version-clause-newer
+returns-in_err-see_no_version-clause-newer g c clean contents r =
+    let first = c.in_ok-open_elder.ensures.reading (search rules) (c.is_let_go.ensures.stays.reads.clean (c.next_elder.ensures.reads.clean (c.see_no_version.ensures.stays.reads.clean (clean.0)))) in
+    absurd (not_newer g.D.Disk _ _ contents [] first c.open_elder.ensures.reads.seen r)
+
+pub returns-in_default-clause-newer : goal.returns-in_default-clause-newer
+returns-in_default-clause-newer g c clean contents r =
+    let first = c.in_ok-open_elder.ensures.reading (search rules) (c.is_let_go.ensures.stays.reads.clean (c.next_elder.ensures.reads.clean (c.see_no_version.ensures.stays.reads.clean (clean.0)))) in
+    absurd (not_newer g.D.Disk _ _ contents [] first c.open_elder.ensures.reads.seen r)
+
+pub returns-then-ne-clause-newer : goal.returns-then-ne-clause-newer
+returns-then-ne-clause-newer g c clean contents r =
+    let first = c.in_ok-open_elder.ensures.reading (search rules) (c.is_let_go.ensures.stays.reads.clean (c.next_elder.ensures.reads.clean (clean.0))) in
+    absurd (not_newer g.D.Disk _ _ contents [] first c.open_elder.ensures.reads.seen r)
+
+pub returns-in_err-copy_whole-clause-newer : goal.returns-in_err-copy_whole-clause-newer
+returns-in_err-copy_whole-clause-newer g c clean contents r =
+    let first = c.in_ok-open_elder.ensures.reading (search rules) (c.is_let_go.ensures.stays.reads.clean (c.next_elder.ensures.reads.clean (c.copy_whole.ensures.reads.clean (clean.0)))) in
+    absurd (not_newer g.D.Disk _ _ contents [] first c.open_elder.ensures.reads.seen r)
+
+pub returns-clause-newer : goal.returns-clause-newer
+returns-clause-newer g c clean contents r =
+    let first = c.in_ok-open_elder.ensures.reading (search rules) (c.is_let_go.ensures.stays.reads.clean (c.next_elder.ensures.reads.clean (c.copy_whole.ensures.reads.clean (clean.0)))) in
+    absurd (not_newer g.D.Disk _ _ contents [] first c.open_elder.ensures.reads.seen r)
