@@ -2,7 +2,10 @@ pub mod AdoptLemmas
 pub mod BlockLemmas
 mod ClearLemmas
 mod CutLemmas
+pub mod ElderLemmas
+pub mod ElderPairLemmas
 mod FrontLemmas
+mod GoingLemmas
 mod JournalLemmas
 mod MarkLemmas
 mod MixedLemmas

@@ -1,4 +1,5 @@
 pub mod Block
+pub mod Elder
 pub mod Error
 pub mod File
 pub mod Journal

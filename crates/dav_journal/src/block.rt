@@ -51,7 +51,7 @@ fn zeros_of(bytes: &[u8]) -> u64
 }
 
 // The digest that a head at this place has at its end.
-fn digest_of_head(key: u64, place: u64, len: u64, told: u64) -> u64
+pub fn digest_of_head(key: u64, place: u64, len: u64, told: u64) -> u64
     ensures { result ≡ digest_at key place len told }
 {
     let (at, len, told) = (place.to_be_bytes(), len.to_be_bytes(), told.to_be_bytes());

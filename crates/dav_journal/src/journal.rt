@@ -11,7 +11,9 @@ ghost use Rattle.dav_journal.specs.Write.{HasZeros, KeepsBelow};
 
 mod clearing;
 mod cutting;
+mod elder;
 mod keeping;
+mod leaving;
 mod marks;
 mod reading;
 #[cfg(test)]

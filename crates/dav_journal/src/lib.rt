@@ -2,6 +2,7 @@
 #![tactic(auto)]
 
 mod block;
+mod elder;
 mod error;
 mod journal;
 mod mark;

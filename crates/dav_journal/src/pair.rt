@@ -8,6 +8,7 @@ ghost use Rattle.dav_journal.specs.Journal.{HasRead, IsClean, IsReading, OnlyRea
 ghost use Rattle.dav_journal.specs.Pair.{HasFirst, HasReadPair, IsCleanPair, IsKeptPair, IsMixingPair, IsReadingPair, OnlyReadsPair, PairLeaves, PairLeavesOnly, PairRecovers, PairStandsFor, StaysPair, WereOpened, counting, generation_of, spare_of};
 
 mod adopting;
+mod elder;
 mod keeping;
 mod opening;
 mod reading;

@@ -89,7 +89,7 @@ impl<D: Disk + Drop> Pair<D> {
 }
 
 // Opens a journal, and tells whether its first block is this one, which was read then.
-fn begins_with<D: Disk + Drop>(
+pub fn begins_with<D: Disk + Drop>(
     journal: &mut Journal<D>,
     alloc: Global,
     former: &[u8],
@@ -150,7 +150,7 @@ fn is_next<D: Disk + Drop>(
 
 // Makes a journal one of the first generation, with this content: it has no block, or what an
 // earlier call left that didn't end.
-fn begin_copy<D: Disk + Drop>(
+pub fn begin_copy<D: Disk + Drop>(
     journal: &mut Journal<D>,
     alloc: Global,
     first: &[u8],

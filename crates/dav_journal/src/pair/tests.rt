@@ -8,6 +8,7 @@ use std::alloc::Global;
 use std::test::Fail;
 
 mod adopting;
+mod elder;
 
 /// What a pair has after each step of its life: the third and the fifth begin anew.
 const STEPS: [&str; 6] = ["", "one,", "one,two,", "three,", "three,four,", "five,"];
