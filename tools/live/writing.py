@@ -13,10 +13,12 @@ class Writers:
     def __init__(self, verdict, clients=6, names=40):
         self.verdict, self.clients, self.names = verdict, clients, names
         self.kept, self.flying, self.threads, self.stop = {}, {}, [], None
+        self.asked = {}  # since `begin`
 
     def begin(self, server):
         """Has the clients write until `end`, or until the server is gone."""
         self.flying.clear()
+        self.asked.clear()
         self.stop = threading.Event()
         self.threads = [threading.Thread(target=self.write, args=(server, number)) for number in range(self.clients)]
         for it in self.threads:
@@ -35,6 +37,7 @@ class Writers:
                 name = f"/c{number}-{rng.randrange(self.names)}"
                 body = None if rng.random() < 0.1 else os.urandom(rng.randrange(1, 3000)).hex().encode()
                 self.flying[name] = body
+                self.asked.setdefault(name, []).append(body)
                 link.request("DELETE" if body is None else "PUT", name, body)
                 reply = link.getresponse()
                 reply.read()
