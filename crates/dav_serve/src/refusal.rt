@@ -23,22 +23,22 @@ pub enum Refusal {
     #[error("{0}/users: {1}")]
     Users(String, UsersError),
     /// The state of the folder can't be opened, or is in use.
-    #[error("{0}/state can't be opened: the folder is missing, or another server has it")]
+    #[error("the state in {0} can't be opened: the folder is missing, or another server has it")]
     State(String),
     /// The state of the folder was kept under another prefix.
-    #[error("{0}/state was kept under another --prefix")]
+    #[error("the state in {0} was kept under another --prefix")]
     OtherPrefix(String),
-    /// The state of the folder is of another version.
-    #[error("{0}/state isn't a state of this version (nor is one of the version before, vuldarg1), or its first bytes are damaged; nothing was changed")]
+    /// The state of the folder is of another version, or its two files don't belong together.
+    #[error("the state in {0} isn't one of this version, nor of vuldarg2 kept under this --prefix (nor is one of the version before, vuldarg1), or its first bytes are damaged, or state and state-wal don't belong together; nothing was changed")]
     Foreign(String),
-    /// The state of the folder is damaged at this place.
-    #[error("{0}/state is damaged at byte {1}; nothing was changed")]
+    /// A file of the folder's state is damaged at this place.
+    #[error("{0}/state or {0}/state-wal is damaged at byte {1}; nothing was changed")]
     Damaged(String, usize),
     /// What a start drops of the state can't be kept beside.
-    #[error("{0}/state.cut-N can't be written, so what a crash left in {0}/state isn't dropped; nothing was changed")]
+    #[error("{0}/state.cut-N can't be written, so what a crash left in {0}/state or {0}/state-wal isn't dropped; nothing was changed")]
     Cut(String),
     /// The disk failed or is full.
-    #[error("{0}/state can't be read or written: the disk failed or is full")]
+    #[error("{0}/state or {0}/state-wal can't be read or written: the disk failed or is full")]
     Disk(String),
     /// Memory ran out.
     #[error("out of memory")]

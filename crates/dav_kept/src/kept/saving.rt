@@ -12,7 +12,7 @@ use crate::handler::Handles;
 use crate::journal::Keeps;
 use crate::kept::Kept;
 use crate::record::put;
-use std::alloc::Global;
+use std::alloc::{AllocError, Global};
 
 // The first block of a journal without a snapshot.
 pub fn plain_block(alloc: Global, preface: &[u8]) -> Result<Vec<u8>, KeptError>
@@ -34,7 +34,8 @@ pub fn is_due(size: usize, base: usize, least: usize) -> bool
 impl<H: Handles + Drop, J: Keeps + Drop> Kept<H, J> {
     /// Keeps the batch, and then makes the journal begin anew with a snapshot: what is saved of the
     /// state takes the place of the records that led to it. False where that can't be saved so that
-    /// it could be loaded, or where the disk has no room for it: then only the batch is kept.
+    /// it could be loaded, or where memory doesn't suffice for it or the disk has no room: then only
+    /// the batch is kept.
     pub fn snapshot(&mut self) -> Result<bool, KeptError>
         ensures held { IfOk result (λ _. held_by self.new ≡ committed (held_by self.old)) }
         ensures saveable { IfOk result (λ b. IsTrue b
@@ -58,7 +59,7 @@ impl<H: Handles + Drop, J: Keeps + Drop> Kept<H, J> {
     {
         self.commit()?;
         self.base = self.journal.place();
-        let Some(block) = self.beginning()? else {
+        let Some(block) = self.fitting()? else {
             return Ok(false);
         };
         if !self.journal.room_to_renew(block.len())? {
@@ -68,6 +69,26 @@ impl<H: Handles + Drop, J: Keeps + Drop> Kept<H, J> {
         self.is_marked = true;
         self.base = self.journal.place();
         Ok(true)
+    }
+
+    // The first block of a journal that begins anew now, if the state can be saved, and memory suffices
+    // for that and for what is written of it.
+    fn fitting(&self) -> Result<Option<Vec<u8>>, KeptError>
+        ensures { IfOk result (λ block. IfSome block (λ v. (v.items ≡ first_block
+            (preface_of self.now) (Some (snapshot_of H.saved (held_by self.now))))
+            × H.is_saveable (held_by self.now).state)) }
+    {
+        match self.beginning() {
+            Ok(Some(block)) => {
+                if has_memory(self.alloc, block.len()) {
+                    Ok(Some(block))
+                } else {
+                    Ok(None)
+                }
+            }
+            Ok(None) | Err(KeptError::Memory) => Ok(None),
+            Err(error) => Err(error),
+        }
     }
 
     // The first block of a journal that begins anew now, if the state can be saved.
@@ -85,4 +106,12 @@ impl<H: Handles + Drop, J: Keeps + Drop> Kept<H, J> {
             Ok(None)
         }
     }
+}
+
+// Whether memory suffices for so many bytes four times: a copy behind its generation, and one as a
+// block, which takes as much again and twice that while it grows.
+fn has_memory(alloc: Global, len: usize) -> bool {
+    let room = len.saturating_mul(4).saturating_add(65_536);
+    let copies: Result<Vec<u8>, AllocError> = Vec::with_capacity(alloc, room);
+    copies.is_ok()
 }
