@@ -3,7 +3,6 @@ mod TokenLemmas
 mod HostLemmas
 mod OneAnswer
 mod MachineRuns
-pub mod SavedRuns
 pub mod RunLemmas
 pub mod ServingLemmas
 pub mod TurnRuns

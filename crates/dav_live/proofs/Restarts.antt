@@ -5,7 +5,7 @@ use Rattle.dav_live.specs.Answers.{IsAnswer}
 use Rattle.dav_live.specs.Life.{RestartsGoOn}
 use Rattle.dav_live.proofs.OneAnswer.{answers_are_one}
 use Rattle.dav_live.proofs.RunLemmas.{starts}
-use Rattle.dav_live.proofs.SavedRuns.{loads_what_was_saved}
+use Rattle.dav_live.specs.SavedRuns.{loads_what_was_saved}
 
 pub restarts_go_on : {J : Type 0} (kept has_read : J → List (List ℕ) → Type 0) → RestartsGoOn kept has_read
 restarts_go_on kept has_read first records old new one start blocks left opened none =

@@ -9,3 +9,4 @@ pub mod Life
 pub mod LiveRun
 pub mod Numbered
 pub mod LifePromises
+pub mod SavedRuns

@@ -5,7 +5,7 @@ ghost use Rattle.http_server.specs.Response.{IsBlank};
 ghost use Rattle.dav_http.specs.Leaves.{Leaves};
 ghost use Rattle.dav_http.specs.Steps.{IsStepFor};
 ghost use Rattle.dav_kept.specs.declared.handler.Effect.TheVariants.{Left};
-ghost use Rattle.dav_live.proofs.SavedRuns.{loads_what_was_saved};
+ghost use Rattle.dav_live.specs.SavedRuns.{loads_what_was_saved};
 ghost use Rattle.dav_live.specs.Answers.{AsksToSee, IsAnswer, IsSentFor, TellsHead, caller_of};
 
 use crate::ends::Ends;

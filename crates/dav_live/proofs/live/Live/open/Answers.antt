@@ -18,7 +18,7 @@ returns g c =
     let service = c.in_ok-service.service in
     let prefix = string_bytes c.args.settings.prefix in
     let first : c.new-machine.result ≡ new_server prefix =
-    c.new-machine.ensures ∙ c.in_ok-handler.ensures.new ∙ ap new_server c.as_str.ensures.value in
+    c.new-machine.ensures ∙ c.in_ok-handler.ensures.new ∙ ap new_server c.as_str-2.ensures.value in
     let run = c.in_ok-service.ensures.run in
     let opened : IsCleanPair g.D.Disk (journal_of (kept_of service)) → IsOpened IsAnswer Loads (λ j bs. HasReadPair g.D.Disk j bs) (new_server prefix) run.0 run.1 (kept_of service) =
     λ clean.
