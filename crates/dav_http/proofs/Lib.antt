@@ -21,3 +21,4 @@ mod LeavesSteps
 pub mod OneAnswer
 pub mod SavedLaws
 pub mod SavedCalls
+pub mod HolderLemmas

@@ -6,5 +6,6 @@ pub mod Leaves
 pub mod Ending
 pub mod Sending
 pub mod HeadText
+pub mod Holders
 pub mod Kept
 pub mod Saved

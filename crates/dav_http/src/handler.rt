@@ -6,6 +6,7 @@ ghost use Rattle.dav_server.specs.Head.{Request, IsHead};
 ghost use Rattle.dav_http.specs.Sent.{IsSendableTextIfAny};
 ghost use Rattle.dav_http.specs.Steps.{IsBodyOf, IsExchangeOf, IsTokenOf};
 
+mod holders;
 mod saved;
 
 use crate::head::{Head, takes_tree};

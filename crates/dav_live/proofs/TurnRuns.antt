@@ -2,6 +2,7 @@
 use Rattle.std.proofs.Common.{◌≡◌, ℕ, List, Option, refl}
 use Rattle.http_server.specs.declared.response.Response.{Response}
 use Rattle.dav_kept.specs.Records.{RequestView}
+use Rattle.dav_server.specs.Head.{Request}
 use Rattle.dav_turns.specs.Turns.{keeping}
 use Rattle.dav_turns.proofs.Carried.{Carries}
 use Rattle.dav_wire.specs.declared.answer.Asked.{Asked}
@@ -17,16 +18,16 @@ module _ {H J : Type 0} (answers : H → RequestView → Response → H → Type
   listed_runs old new bytes (refused fault unlisted stays) = same_runs answers saved is_saveable is_clean kept (kept_of old) (kept_of new) stays.1
 
   -- what a live server does carries the run of its records on
-  pub run_carries : (ends : H → ℕ → Option (List ℕ) → Type 0)
+  pub run_carries : (forbids : H → Request → List ℕ → Type 0) (ends : H → ℕ → Option (List ℕ) → Type 0)
       → Carries (keeping (λ (old : Service H J) (head : List ℕ) (verdict : Option Rejection) (new : Service H J). StaysAll old new)
-      (λ (old : Service H J) (asked : Asked) (response : Response) (new : Service H J). Serves answers is_clean kept old asked response new)
+      (λ (old : Service H J) (asked : Asked) (response : Response) (new : Service H J). Serves answers forbids is_clean kept old asked response new)
       (λ (old : Service H J) (bytes : List ℕ) (new : Service H J). IsGreeted old bytes new)
       (λ (old : Service H J) (bytes : List ℕ) (new : Service H J). IsListed old bytes new)
       (λ (old : Service H J) (address : List ℕ) (new : Service H J). StaysAll old new)
       (λ (old : Service H J) (seconds : ℕ) (new : Service H J). IsPassed answers is_clean kept ends old seconds new)
       (λ (old new : Service H J). IsMarked saved is_saveable is_clean kept old new) (λ (old new : Service H J). IsCommitted is_clean kept old new))
       (λ old new. RunGoesOn answers saved is_saveable is_clean kept (kept_of old) (kept_of new))
-  run_carries ends = record {
+  run_carries forbids ends = record {
     same = λ s. same_runs answers saved is_saveable is_clean kept (kept_of s) (kept_of s) refl;
     joined = λ a b c. runs_then answers saved is_saveable is_clean kept (kept_of a) (kept_of b) (kept_of c);
     judges = λ a head verdict b stays. same_runs answers saved is_saveable is_clean kept (kept_of a) (kept_of b) stays.1;

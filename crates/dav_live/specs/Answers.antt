@@ -1,5 +1,6 @@
 -- How the machine of a live server answers (RFC 9110, section 3; RFC 4918, section 8).
 use Rattle.std.specs.Prelude.{◌≡◌, ◌⊎◌, ◌↔◌, ℕ, Bool, true, List, Option, Some, None, codes}
+use Rattle.std.specs.Str.{IsUtf8}
 use Rattle.http_server.specs.declared.response.Response.{Response}
 use Rattle.dav_core.specs.Locks.{Lock}
 use Rattle.dav_engine.specs.Caller.{Caller}
@@ -8,10 +9,12 @@ use Rattle.dav_engine.specs.Reply.{Reply}
 use Rattle.dav_server.specs.Head.{IsHead, Request}
 use Rattle.dav_server.specs.Server.{Server}
 use Rattle.dav_http.specs.Ending.{IsUnlockHead}
+use Rattle.dav_http.specs.Holders.{NamesOwn}
 use Rattle.dav_http.specs.Sending.{IsSentAs}
 use Rattle.dav_http.specs.Steps.{IsStepFor}
 use Rattle.dav_kept.specs.Records.{RequestView}
 use Rattle.dav_store.specs.LockEnds.{first_ended}
+use Rattle.dav_live.specs.Hosts.{value_of}
 
 -- who makes a request, when, and the token for a lock that it creates
 abbrev pub caller_of : RequestView → Caller
@@ -38,6 +41,12 @@ IsSentFor head r sent = (is_head : Bool) × TellsHead head is_head × IsSentAs i
 pub data IsAnswer (old : Server) (q : RequestView) (sent : Response) : Server → Type 0 where
   replied : {new : Server} (r : Reply) → IsStepFor q.head q.body (caller_of q) old r new → IsSentFor q.head r sent → IsAnswer old q sent new
   shown : (r : Reply) → AsksToSee q.head → IsStepFor q.head q.body (caller_of q) old r old → r.status ≡ 405 → sent.status ≡ 200 → IsAnswer old q sent old
+
+-- a request is an UNLOCK that names a lock of another than this user, or of nobody: knowing its token gives no right to end it (RFC 4918,
+-- sections 6.4 and 9.11.1)
+abbrev pub IsForeignUnlock : Locks → Request → List ℕ → Type 0
+IsForeignUnlock locks r user =
+    (r.method ≡ codes "UNLOCK") × ((text : List ℕ) × (value_of (codes "lock-token") r ≡ Some text) × IsUtf8 text × (¬ NamesOwn locks user text))
 
 -- The request with this head is the UNLOCK of the first lock of a list whose time ended at this moment or before; none where there is no
 -- such lock (RFC 4918, sections 6.6 and 9.11).

@@ -1,6 +1,7 @@
 //! What the requests of a live server are answered by: the machine, and a page where somebody asks for a folder.
 ghost use Rattle.std.specs.Prelude.{◌≡◌, ◌⊎◌, ◌↔◌, IfOk, IsFalse, IsTrue, OnOk, codes};
 ghost use Rattle.dav_http.specs.Saved.{IsSaveable, Loads, saved_bytes};
+ghost use Rattle.std.specs.Bool.{Decides};
 ghost use Rattle.http_server.specs.Response.{IsBlank};
 ghost use Rattle.dav_http.specs.Leaves.{Leaves};
 ghost use Rattle.dav_http.specs.Steps.{IsStepFor};
@@ -19,6 +20,7 @@ use dav_saved::LoadError;
 use http_server::Response;
 use std::alloc::Global;
 use std::marker::Model;
+use std::str;
 
 /// A machine, as records are played on it.
 #[derive(Drop)]
@@ -53,7 +55,33 @@ fn is_get_or_head(method: &[u8]) -> bool
     method == b"GET".as_slice() || is_head(method)
 }
 
+// Whether a method is UNLOCK.
+fn is_unlock(method: &[u8]) -> bool
+    ensures { Decides result (method.now ≡ codes "UNLOCK") }
+{
+    method == b"UNLOCK".as_slice()
+}
+
 impl Machine {
+    ghost use Rattle.std.specs.Prelude.{◌≡◌, List, ℕ, Some, option_map};
+    ghost use Rattle.std.specs.Bool.{Decides};
+    ghost use Rattle.std.specs.Str.{IsUtf8};
+    ghost use Rattle.dav_http.specs.Holders.{NamesOwn};
+
+    // Whether the value of a Lock-Token, if there is one, is a text that names a lock of another than this user.
+    fn names_foreign(&self, value: Option<&[u8]>, user: &str) -> bool
+        ensures { Decides result ((text : List ℕ) × (option_map (λ v. v.now) value ≡ Some text)
+            × IsUtf8 text × (¬ NamesOwn self.now.state.locks user.now text)) }
+    {
+        let Some(value) = value else {
+            return false;
+        };
+        match str::from_utf8(value) {
+            Ok(text) => !self.handler.names_own(user, text),
+            Err(_) => false,
+        }
+    }
+
     /// The machine of a server.
     pub fn new(alloc: Global, handler: Handler) -> Machine
         ensures { result ≡ handler.server }
@@ -275,7 +303,7 @@ impl Handles for Machine {
 }
 
 impl Ends for Machine {
-    ghost use Rattle.dav_live.specs.Answers.{IsNextEnd};
+    ghost use Rattle.dav_live.specs.Answers.{IsForeignUnlock, IsNextEnd};
 
     ghost ends = { λ server now head. IsNextEnd server.state.locks now head };
 
@@ -284,5 +312,11 @@ impl Ends for Machine {
             Some(lock) => Ok(Some(unlock_head(self.alloc, lock)?)),
             None => Ok(None),
         }
+    }
+
+    ghost forbids = { λ server r user. IsForeignUnlock server.state.locks r user };
+
+    fn forbids(&self, head: &Head<'_>, user: &str) -> bool {
+        is_unlock(head.method()) && self.names_foreign(head.value("lock-token"), user)
     }
 }

@@ -21,7 +21,8 @@ use httpdate::HttpDate;
 use std::alloc::Global;
 
 impl<H: Ends + Drop, J: Keeps + Drop> Service<H, J> {
-    ghost use Rattle.std.specs.Prelude.{◌≡◌, OnOk, option_map, string_bytes};
+    ghost use Rattle.std.specs.Prelude.{◌≡◌, ℕ, List, Some, OnOk, option_map, string_bytes};
+    ghost use Rattle.std.specs.Bool.{Decides};
     ghost use Rattle.http_server.specs.Response.{IsBlank};
     ghost use Rattle.dav_server.specs.Head.{IsHead};
     ghost use Rattle.dav_live.specs.Numbered.{HasNumber};
@@ -32,7 +33,7 @@ impl<H: Ends + Drop, J: Keeps + Drop> Service<H, J> {
     // Answers a request. 400 where the bytes of its head are none (RFC 9110, section 15.5.1).
     fn respond(&mut self, asked: &Asked, response: &mut Response) -> Result<(), Stop>
         requires { IsBlank response.old }
-        ensures responds { OnOk result (IsResponseTo H.answers (admission_of self.old)
+        ensures responds { OnOk result (IsResponseTo H.answers H.forbids (admission_of self.old)
             (held_of self.old) asked.now response.new (held_of self.new)) }
         ensures same { OnOk result (admission_of self.new ≡ admission_of self.old) }
         ensures goes_on { OnOk result
@@ -56,7 +57,7 @@ impl<H: Ends + Drop, J: Keeps + Drop> Service<H, J> {
     ) -> Result<(), Stop>
         requires head { IsHead asked.now.head head.now }
         requires blank { IsBlank response.old }
-        ensures responds { OnOk result (IsResponseTo H.answers (admission_of self.old)
+        ensures responds { OnOk result (IsResponseTo H.answers H.forbids (admission_of self.old)
             (held_of self.old) asked.now response.new (held_of self.new)) }
         ensures same { OnOk result (admission_of self.new ≡ admission_of self.old) }
         ensures goes_on { OnOk result
@@ -69,9 +70,25 @@ impl<H: Ends + Drop, J: Keeps + Drop> Service<H, J> {
                 self.note(refused.user.as_str(), head, response)
             }
             Decision::Run(admitted) => {
-                self.run(&admitted, &asked.body, response)?;
+                if self.is_forbidden(&admitted, head) {
+                    response.status = StatusCode::FORBIDDEN;
+                } else {
+                    self.run(&admitted, &asked.body, response)?;
+                }
                 self.note(admitted.user(), head, response)
             }
+        }
+    }
+
+    // Whether the user of a request that was admitted may not make it.
+    fn is_forbidden(&self, admitted: &Admitted, head: &Head<'_>) -> bool
+        ensures { Decides result ((user : List ℕ)
+            × (option_map string_bytes admitted.now.principal ≡ Some user)
+            × H.forbids (held_of self.now).state head.now user) }
+    {
+        match admitted.principal.as_deref() {
+            Some(user) => self.kept.handler().forbids(head, user),
+            None => false,
         }
     }
 
@@ -240,7 +257,7 @@ impl<H: Ends + Drop, J: Keeps + Drop> Answerer for Service<H, J> {
 
     ghost judges = { λ old head verdict new. StaysAll old new };
 
-    ghost answers = { λ old asked response new. Serves H.answers J.is_clean J.kept old asked response new };
+    ghost answers = { λ old asked response new. Serves H.answers H.forbids J.is_clean J.kept old asked response new };
 
     fn judge(&mut self, head: &[u8]) -> Result<Option<Rejection>, Stop> {
         if is_plain_read(head) {
