@@ -293,6 +293,13 @@ impl<H: Handles + Drop, J: Keeps + Drop> Kept<H, J> {
         is_due(self.journal.place(), self.base, least)
     }
 
+    /// Whether the journal had no block when it was read, and isn't begun yet: nothing was ever kept.
+    pub fn is_new(&self) -> bool
+        ensures { result ≡ is_new self.now }
+    {
+        self.is_new
+    }
+
     /// How many of all records have a token.
     pub fn tokens(&self) -> u64
         ensures { result ≡ (held_by self.now).tokens }

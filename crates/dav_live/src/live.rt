@@ -58,7 +58,7 @@ impl<D: Disk + Drop> Live<D> {
     ghost use Rattle.sqlite_disk.specs.Disk.{Holds};
     ghost use Rattle.dav_http.specs.Saved.{IsSaveable, Loads, saved_bytes};
     ghost use Rattle.dav_http.specs.Steps.{new_server};
-    ghost use Rattle.dav_kept.specs.Kept.{Snapshot, answer_step, held_by, journal_of};
+    ghost use Rattle.dav_kept.specs.Kept.{Snapshot, answer_step, held_by, is_new, journal_of};
     ghost use Rattle.dav_kept.specs.Life.{IsRunSince};
     ghost use Rattle.dav_server.specs.Server.{Server as ServerValue};
     ghost use Rattle.dav_turns.specs.Frames.{Order, order_bytes};
@@ -103,6 +103,13 @@ impl<D: Disk + Drop> Live<D> {
             → IsCleanPair D.Disk (journal_of (kept_in self.old)) }
     {
         self.service.rest()
+    }
+
+    /// Whether nothing was ever kept: the state has no block. `begin` gives it its first one.
+    pub fn is_new(&self) -> bool
+        ensures { result ≡ is_new (kept_in self.now) }
+    {
+        self.service.is_new()
     }
 
     /// Reads bytes of the state's file.

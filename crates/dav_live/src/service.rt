@@ -30,7 +30,7 @@ pub struct Service<H, J> {
 impl<H: Ends + Drop, J: Keeps + Drop> Service<H, J> {
     ghost use Rattle.std.specs.Prelude.{◌≡◌, ◌⊎◌, ◌<◌, ℕ, List, [], Option, IfOk, OnOk, length, map, min, replicate, string_bytes};
     ghost use Rattle.dav_core.specs.World.{last_moment};
-    ghost use Rattle.dav_kept.specs.Kept.{Snapshot, answer_step, held_by, journal_of};
+    ghost use Rattle.dav_kept.specs.Kept.{Snapshot, answer_step, held_by, is_new, journal_of};
     ghost use Rattle.dav_kept.specs.Life.{IsRunSince};
     ghost use Rattle.dav_live.specs.Runs.{IsOneRun, IsOpened, Saves, StaysKept};
     ghost use Rattle.dav_live.specs.Numbered.{AreNumbered};
@@ -89,6 +89,13 @@ impl<H: Ends + Drop, J: Keeps + Drop> Service<H, J> {
             Ok(rest) => Ok(rest),
             Err(error) => Err(error.into()),
         }
+    }
+
+    /// Whether nothing was ever kept: the state has no block.
+    pub fn is_new(&self) -> bool
+        ensures { result ≡ is_new (kept_of self.now) }
+    {
+        self.kept.is_new()
     }
 
     /// Reads bytes of the state's file.

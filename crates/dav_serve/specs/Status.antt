@@ -13,11 +13,12 @@ status_after Pipe = 2
 status_after Memory = 3
 status_after Disk = 5
 
--- the exit status of a program that can't begin: 3 where memory ran out, 4 where the state is damaged or of another version, 5 where the
+-- the exit status of a program that can't begin: 3 where memory ran out, 4 where the state is damaged, gone or of another version, 5 where the
 -- disk failed or what is dropped can't be kept, and 1 for arguments, users, prefixes and a state that is in use
 abbrev pub status_refused : Refusal → ℕ
 status_refused refusal.Memory = 3
 status_refused (refusal.Foreign folder) = 4
+status_refused (refusal.Gone folder) = 4
 status_refused (refusal.Damaged folder place) = 4
 status_refused (refusal.Cut folder) = 5
 status_refused (refusal.Disk folder) = 5

@@ -1,6 +1,8 @@
 //! The program `dav-serve FOLDER [OPTION..]`: a live server over its standard input and output, which a front gives it. It keeps
 //! its state in FOLDER/state and FOLDER/state-wal, of which one counts.
 //!
+//! That a state was begun is told by FOLDER/state.begun: where that is there, and no block of the state, the state is gone.
+//!
 //! Exit status: 0 the input ended; 1 the arguments, the folder or the users are wrong, or the state is in use; 2 a report wasn't
 //! understood, or a pipe failed; 3 memory ran out; 4 the state is damaged or of another version, and nothing was changed; 5 the disk
 //! is full or failed.
@@ -9,11 +11,13 @@
 ghost use Rattle.std.specs.Prelude.{◌≡◌};
 ghost use Rattle.dav_serve.specs.Status.{status_after};
 
+mod begun;
 mod options;
 mod refusal;
 mod rest;
 mod watcher;
 
+use begun::{note_begun, see_begun};
 use dav_live::{Fault, Live, Users, UsersError};
 use options::Options;
 use refusal::{Refusal, refused, status_of};
@@ -70,11 +74,14 @@ fn open_live(rt: &HostRuntime, alloc: Global, options: Options) -> Result<Live<F
         Ok(live) => live,
         Err(error) => return Err(refused(folder, prefix, error)),
     };
+    see_begun(rt, alloc, folder.as_str(), &live)?;
     keep_rest(rt, alloc, folder.as_str(), &mut live)?;
     match live.begin() {
-        Ok(()) => Ok(live),
-        Err(error) => Err(refused(folder, prefix, error)),
+        Ok(()) => {}
+        Err(error) => return Err(refused(folder, prefix, error)),
     }
+    note_begun(rt, alloc, folder.as_str())?;
+    Ok(live)
 }
 
 // Begins with the arguments of the program.

@@ -31,6 +31,9 @@ pub enum Refusal {
     /// The state of the folder is of another version, or its two files don't belong together.
     #[error("the state in {0} isn't one of this version, nor of vuldarg2 kept under this --prefix (nor is one of the version before, vuldarg1), or its first bytes are damaged, or state and state-wal don't belong together; nothing was changed")]
     Foreign(String),
+    /// The state of the folder was begun, and has no block.
+    #[error("the state in {0} is gone: state and state-wal have no block, and state.begun says that there was one (to begin a new state, remove the three)")]
+    Gone(String),
     /// A file of the folder's state is damaged at this place.
     #[error("{0}/state or {0}/state-wal is damaged at byte {1}; nothing was changed")]
     Damaged(String, usize),
@@ -78,7 +81,7 @@ pub fn status_of(refusal: &Refusal) -> u8
 {
     match refusal {
         Refusal::Memory => 3,
-        Refusal::Foreign(_) | Refusal::Damaged(_, _) => 4,
+        Refusal::Foreign(_) | Refusal::Gone(_) | Refusal::Damaged(_, _) => 4,
         Refusal::Cut(_) | Refusal::Disk(_) => 5,
         Refusal::Options(_)
         | Refusal::Prefix(_)
