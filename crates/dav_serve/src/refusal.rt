@@ -29,7 +29,7 @@ pub enum Refusal {
     #[error("{0}/state was kept under another --prefix")]
     OtherPrefix(String),
     /// The state of the folder is of another version.
-    #[error("{0}/state isn't a state of this version (nor is one of the version before, vuldarg1), or its first bytes are damaged; nothing was changed")]
+    #[error("{0}/state is no state that this version or an earlier one (vuldarg1, vuldarg2) kept under this --prefix, or its first bytes are damaged; nothing was changed")]
     Foreign(String),
     /// The state of the folder is damaged at this place.
     #[error("{0}/state is damaged at byte {1}; nothing was changed")]
