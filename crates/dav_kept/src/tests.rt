@@ -101,6 +101,16 @@ const FORMER: &str = "
 00
 ";
 
+/// The same in the elder format.
+const ELDER: &str = "
+76756c64617267313a9808e0803017aa
+0000000000000001f4d369d7b0a133fa592d79283a86807a
+2f
+000000000000005edcf2d8cd789eec1aa8e13f6d017aa7ce
+000000003b99788000c90000000000000000003e505554202f6f6c6420485454502f312e310d0a486f73743a206c6f63
+616c686f73743a343931380d0a436f6e74656e742d4c656e6774683a20340d0a0d0a00000000000000046b657074
+";
+
 /// How many bytes a journal's blocks take, how many they took at the last snapshot, how many are the
 /// least for one, and whether it is to begin anew.
 const DUE: &str = "
@@ -327,20 +337,22 @@ fn begin(alloc: Global, block: &[u8]) -> Lived {
     Ok((kept, 0))
 }
 
-/// A journal of before is taken over, once.
+/// A journal of before is taken over, once, of either format.
 #[test]
 fn a_journal_of_before_is_taken_over(rt: HostRuntime) -> Result<(), Fail> {
     let alloc = rt.alloc();
     let head = "PUT /old HTTP/1.1\r\nHost: localhost:4918\r\nContent-Length: 4\r\n\r\n";
-    let mut disk = Memory::new(alloc);
-    disk.write_at(0, &bytes_in(alloc, FORMER)?)?;
-    disk.sync()?;
-    let mut pair = Pair::new(disk, Memory::new(alloc));
-    assert!(rt; adopt(alloc, &mut pair, b"/")?);
-    assert!(rt; !adopt(alloc, &mut pair, b"/")?);
-    let kept = start(alloc, pair, StatusCode::CREATED, false)?;
-    assert_eq!(rt; kept.handler().heads.as_slice(), head.as_bytes());
-    assert_eq!(rt; (kept.tokens(), kept.latest()), (0, 999_913_600));
+    for state in [FORMER, ELDER] {
+        let mut disk = Memory::new(alloc);
+        disk.write_at(0, &bytes_in(alloc, state)?)?;
+        disk.sync()?;
+        let mut pair = Pair::new(disk, Memory::new(alloc));
+        assert!(rt; adopt(alloc, &mut pair, b"/")?);
+        assert!(rt; !adopt(alloc, &mut pair, b"/")?);
+        let kept = start(alloc, pair, StatusCode::CREATED, false)?;
+        assert_eq!(rt; kept.handler().heads.as_slice(), head.as_bytes());
+        assert_eq!(rt; (kept.tokens(), kept.latest()), (0, 999_913_600));
+    }
     Ok(())
 }
 

@@ -29,7 +29,7 @@ pub enum Refusal {
     #[error("the state in {0} was kept under another --prefix")]
     OtherPrefix(String),
     /// The state of the folder is of another version, or its two files don't belong together.
-    #[error("the state in {0} isn't one of this version, nor of vuldarg2 kept under this --prefix (nor is one of the version before, vuldarg1), or its first bytes are damaged, or state and state-wal don't belong together; nothing was changed")]
+    #[error("the state in {0} is none that this version or an earlier one (vuldarg1, vuldarg2) kept under this --prefix, or its first bytes are damaged, or state and state-wal don't belong together; nothing was changed")]
     Foreign(String),
     /// The state of the folder was begun, and has no block.
     #[error("the state in {0} is gone: state and state-wal have no block, and state.begun says that there was one (to begin a new state, remove the three)")]
