@@ -1,14 +1,18 @@
 -- What a live server keeps when it answers and hears.
-use Rattle.std.proofs.Common.{◌≡◌, max, min, inr, ℕ, Result, Ok, Err, OnOk, MatchOption, Bool, IsFalse, IsTrue, String, option_map, string_bytes, List, Option, Some, None, sym, ap, subst, ◌∙◌}
+use Rattle.std.proofs.Common.{◌≡◌, max, min, inr, ℕ, Result, Ok, Err, OnOk, MatchOption, ◌⊎◌, inl, [], true, false, Bool, IsFalse, IsTrue, String, option_map, string_bytes, List, Option, Some, None, sym, ap, subst, ◌∙◌}
 use Rattle.std.specs.Global.{Global}
 use Rattle.http_server.specs.declared.response.Response.{Response}
 use Rattle.dav_kept.specs.Kept.{Holding}
 use Rattle.dav_kept.specs.Records.{RequestView}
 use Rattle.dav_kept.specs.declared.handler.Effect.TheVariants.{Left}
-use Rattle.dav_live.specs.Admission.{AdmissionView, IsTokenFor, next, none}
+use Rattle.http_server.specs.Response.{IsResponse}
+use Rattle.dav_server.specs.Head.{IsHead, Request}
+use Rattle.dav_wire.specs.declared.answer.Asked.{Asked}
+use Rattle.dav_live.specs.Admission.{AdmissionView, IsRequestOf, IsTokenFor, next, none, request_in}
+use Rattle.dav_live.specs.declared.admission.Admitted.{Admitted}
 use Rattle.dav_live.specs.Numbered.{HasNumber}
 use Rattle.dav_live.specs.Runs.{GoesOn}
-use Rattle.dav_live.specs.Serving.{EndsLocks, IsEnded, IsPassed, IsRun, admission_of, answered, held_of, kept_of, one, own_request}
+use Rattle.dav_live.specs.Serving.{EndsLocks, IsEnded, IsForbidden, IsPassed, IsResponseTo, IsRun, admission_of, forbidden, run, answered, held_of, kept_of, one, own_request}
 use Rattle.dav_live.specs.declared.service.Service.{Service}
 use Rattle.dav_core.specs.World.{last_moment}
 
@@ -75,3 +79,20 @@ passed_later {H} answers is_clean kept ends (Ok x) old new seconds a later ended
       goes_on = goes;
     }
 passed_later answers is_clean kept ends (Err e) old new seconds a later ended same goes = tt
+
+-- ---- a request that was admitted
+
+pub ran_or_forbidden : {S : Type 0} (answers : S → RequestView → Response → S → Type 0) (forbids : S → Request → List ℕ → Type 0) (a b : AdmissionView) (old new noted : Holding S)
+    (asked : Asked) (r : Request) (admitted : Admitted) (own : Response) → IsHead asked.head r → IsRequestOf a old.tokens r asked.body (request_in a admitted asked.body) → b ≡ a → noted ≡ new
+    → (IsForbidden forbids old.state r (request_in b admitted asked.body) × IsResponse 403 [] [] own × (new ≡ old))
+    ⊎ ((¬ IsForbidden forbids old.state r (request_in b admitted asked.body)) × IsRun answers old (request_in b admitted asked.body) own new)
+    → IsResponseTo answers forbids a old asked own noted
+ran_or_forbidden answers forbids a b old new noted asked r admitted own is request same noted-is (inl (may-not, answer, left)) =
+    forbidden r (request_in a admitted asked.body) is request (subst (λ (x : AdmissionView). IsForbidden forbids old.state r (request_in x admitted asked.body)) same may-not) answer (noted-is ∙ left)
+ran_or_forbidden {S} answers forbids a b old new noted asked r admitted own is request same noted-is (inr (may, ran)) =
+    run r (request_in a admitted asked.body) is request (subst (λ (x : AdmissionView). ¬ IsForbidden forbids old.state r (request_in x admitted asked.body)) same may)
+    (subst (λ (h : Holding S). IsRun answers old (request_in a admitted asked.body) own h) (sym noted-is)
+    (subst (λ (x : AdmissionView). IsRun answers old (request_in x admitted asked.body) own new) same ran))
+
+pub forbidden_or_not : {P Q : Type 0} (b : Bool) → (b ≡ true → P) × (P → b ≡ true) → b ≡ false → Q → (¬ P) × Q
+forbidden_or_not b tells other q = ((λ p. let bad : false ≡ true = sym other ∙ tells.1 p in cc), q)

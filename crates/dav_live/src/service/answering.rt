@@ -21,14 +21,14 @@ use httpdate::HttpDate;
 use std::alloc::Global;
 
 impl<H: Ends + Drop, J: Keeps + Drop> Service<H, J> {
-    ghost use Rattle.std.specs.Prelude.{◌≡◌, ℕ, List, Some, OnOk, option_map, string_bytes};
+    ghost use Rattle.std.specs.Prelude.{◌≡◌, ◌⊎◌, ℕ, List, [], Some, OnOk, option_map, string_bytes};
     ghost use Rattle.std.specs.Bool.{Decides};
-    ghost use Rattle.http_server.specs.Response.{IsBlank};
+    ghost use Rattle.http_server.specs.Response.{IsBlank, IsResponse};
     ghost use Rattle.dav_server.specs.Head.{IsHead};
     ghost use Rattle.dav_live.specs.Numbered.{HasNumber};
     ghost use Rattle.dav_live.specs.Admission.{request_in};
     ghost use Rattle.dav_live.specs.Runs.{GoesOn};
-    ghost use Rattle.dav_live.specs.Serving.{IsResponseTo, IsRun, StaysAll, admission_of, held_of, kept_of};
+    ghost use Rattle.dav_live.specs.Serving.{IsForbidden, IsResponseTo, IsRun, StaysAll, admission_of, held_of, kept_of};
 
     // Answers a request. 400 where the bytes of its head are none (RFC 9110, section 15.5.1).
     fn respond(&mut self, asked: &Asked, response: &mut Response) -> Result<(), Stop>
@@ -70,14 +70,41 @@ impl<H: Ends + Drop, J: Keeps + Drop> Service<H, J> {
                 self.note(refused.user.as_str(), head, response)
             }
             Decision::Run(admitted) => {
-                if self.is_forbidden(&admitted, head) {
-                    response.status = StatusCode::FORBIDDEN;
-                } else {
-                    self.run(&admitted, &asked.body, response)?;
-                }
+                self.run_if_allowed(&admitted, head, &asked.body, response)?;
                 self.note(admitted.user(), head, response)
             }
         }
+    }
+
+    // Runs a request that was admitted; 403 where its user may not make it (RFC 9110, section 15.5.4).
+    fn run_if_allowed(
+        &mut self,
+        admitted: &Admitted,
+        head: &Head<'_>,
+        body: &Bytes,
+        response: &mut Response,
+    ) -> Result<(), Stop>
+        requires blank { IsBlank response.old }
+        requires number { HasNumber (held_of self.old).tokens
+            (option_map string_bytes admitted.now.token) }
+        ensures ran { OnOk result
+            ((IsForbidden H.forbids (held_of self.old).state head.now
+            (request_in (admission_of self.old) admitted.now body.now)
+            × IsResponse 403 [] [] response.new × (held_of self.new ≡ held_of self.old))
+            ⊎ ((¬ IsForbidden H.forbids (held_of self.old).state head.now
+            (request_in (admission_of self.old) admitted.now body.now))
+            × IsRun H.answers (held_of self.old)
+            (request_in (admission_of self.old) admitted.now body.now) response.new
+            (held_of self.new))) }
+        ensures same { OnOk result (admission_of self.new ≡ admission_of self.old) }
+        ensures goes_on { OnOk result
+            (GoesOn H.answers J.is_clean J.kept (kept_of self.old) (kept_of self.new)) }
+    {
+        if self.is_forbidden(admitted, head) {
+            response.status = StatusCode::FORBIDDEN;
+            return Ok(());
+        }
+        self.run(admitted, body, response)
     }
 
     // Whether the user of a request that was admitted may not make it.
