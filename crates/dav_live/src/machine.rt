@@ -70,7 +70,8 @@ impl Machine {
 
     // Whether the value of a Lock-Token, if there is one, is a text that names a lock of another than this user.
     fn names_foreign(&self, value: Option<&[u8]>, user: &str) -> bool
-        ensures { Decides result ((text : List ℕ) × (option_map (λ v. v.now) value.entry ≡ Some text)
+        ensures { Decides result ((text : List ℕ)
+            × (option_map (λ v. v.now) value.entry ≡ Some text)
             × IsUtf8 text × (¬ NamesOwn self.now.state.locks user.now text)) }
     {
         let Some(value) = value else {
