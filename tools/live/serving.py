@@ -1,7 +1,9 @@
 """Starts ./serve on a free port for the trials of this folder, and ends it again."""
 import contextlib
+import hashlib
 import http.client
 import os
+import shutil
 import signal
 import socket
 import subprocess
@@ -117,6 +119,27 @@ def ask(port, method, path, body=None, headers=None, timeout=60):
         raise OSError(str(error)) from error
     finally:
         link.close()
+
+
+def run(words, given="", timeout=120, **how):
+    """The status and all that a program wrote."""
+    try:
+        ran = subprocess.run(words, input=given, capture_output=True, text=True, timeout=timeout, check=False, **how)
+    except subprocess.TimeoutExpired:
+        return 124, "it took too long"
+    return ran.returncode, ran.stdout + ran.stderr
+
+
+def has(program):
+    if shutil.which(program):
+        return True
+    print(f"not tried: {program} (it isn't here)")
+    return False
+
+
+def digest(path):
+    with open(path, "rb") as it:
+        return hashlib.file_digest(it, "sha256").hexdigest()
 
 
 class Verdict:
