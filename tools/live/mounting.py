@@ -1,8 +1,10 @@
 """Sessions of clients that mount a server: Windows' redirector, macOS Finder, LibreOffice. Each is written as the requests that it sends."""
 import time
+import xml.etree.ElementTree as ET
 
 from asking import DAV, DONE, WIN32, Client, grow_old, http_date, is_rfc3339, moment, random_bytes
 
+UCB = "http://ucb.openoffice.org/dav/props/"
 QUOTA = [f"{DAV}quota-available-bytes", f"{DAV}quota-used-bytes"]
 TIMES = ["Win32CreationTime", "Win32LastAccessTime", "Win32LastModifiedTime"]
 
@@ -118,23 +120,50 @@ def finder_cache(client):
     client.site.see("GET of the rest", part.status == 206 and part.body == whole.body[30000:], part)
 
 
+def office_find(client, path, *names):
+    """A PROPFIND as LibreOffice writes it: each name declares the default namespace of its own."""
+    told = "".join(f'<{name} xmlns="{"DAV:" if name.islower() else UCB}"/>' for name in names)
+    body = f'<?xml version="1.0" encoding="UTF-8"?>\n<propfind xmlns="DAV:"><prop>{told}</prop></propfind>'
+    return client.ask("PROPFIND", path, body, {"Depth": "0", "Content-Type": "application/xml"})
+
+
 def libreoffice(site):
-    """A document that is opened, changed and stored."""
-    client = Client(site, "LibreOffice 7.4.7.2 denylistedbackend/7.88.1")
-    client.see("the document", client.ask("PUT", "/letter.odt", b"first"), 201)
-    names = [DAV + name for name in ("resourcetype", "getcontenttype", "getcontentlength", "lockdiscovery", "supportedlock")]
-    names += ["{http://apache.org/dav/props/}executable", f"{DAV}IsReadOnly", f"{DAV}IsDocument"]
-    reply = client.propfind("/letter.odt", "0", *names)
-    all_told(client, "PROPFIND: each name is told, or 404", reply, "/letter.odt", names)
-    reply = client.propfind("/letter.odt", "0", *names[-3:])
-    all_told(client, "PROPFIND of what isn't there alone", reply, "/letter.odt", names[-3:])
-    reply, token = client.lock("/letter.odt", "Second-180")
+    """A document that is opened, changed and stored; before it is stored, its folder is looked at."""
+    client, path = Client(site, "LibreOffice 7.4.7.2 denylistedbackend/7.88.1 GnuTLS/3.7.9", Accept="*/*"), "/letter.odt"
+    client.see("the document", client.ask("PUT", path, b"first"), 201)
+    for where in (path, "/"):
+        reply = office_find(client, where, "resourcetype", "IsReadOnly", "getcontenttype", "supportedlock")
+        names = [f"{DAV}resourcetype", f"{{{UCB}}}IsReadOnly", f"{DAV}getcontenttype", f"{DAV}supportedlock"]
+        all_told(client, f"PROPFIND of {where}: each name is told, or 404", reply, where, names)
+        site.see(f"PROPFIND of {where}: resourcetype has a prefix, else it isn't read",
+                 reply.status == 207 and b":resourcetype" in reply.body and b"<resourcetype" not in reply.body, reply.body)
+    for where, name in ((path, "IsReadOnly"), (path, "BaseURI"), (path, "ObjectId"), ("/", "CreatableContentsInfo")):
+        all_told(client, "PROPFIND of a name alone that isn't there", office_find(client, where, name), where, [f"{{{UCB}}}{name}"])
+    reply = client.ask("PROPFIND", path, b'<propfind xmlns="DAV:"><propname/></propfind>', {"Depth": "0", "Content-Type": "application/xml"})
+    site.see("PROPFIND of names", f"{DAV}supportedlock" in reply.told(path), reply)
+    reply, token = client.lock(path, "Second-180")
     client.see("LOCK", reply, 200)
-    site.see("GET", client.get("/letter.odt").body == b"first")
-    client.see("PUT under the lock", client.ask("PUT", "/letter.odt", b"second", {"If": f"({token})"}), *DONE)
-    client.see("UNLOCK", client.ask("UNLOCK", "/letter.odt", None, {"Lock-Token": token}), 204)
-    site.see("what was stored", client.get("/letter.odt").body == b"second")
-    site.see("its type", client.get("/letter.odt").kind() == "application/vnd.oasis.opendocument.text", client.ask("HEAD", "/letter.odt"))
+    reply = office_find(client, path, "getlastmodified")
+    site.see("its date", moment(reply.text(path, f"{DAV}getlastmodified")), reply)
+    client.see("HEAD of its folder", client.ask("HEAD", "/"), 200)
+    client.see("PUT under the lock", client.ask("PUT", path, b"second", {"If": f"({token})"}), *DONE)
+    client.see("UNLOCK", client.ask("UNLOCK", path, None, {"Lock-Token": token}), 204)
+    site.see("what was stored", client.get(path).body == b"second")
+    site.see("its type", client.get(path).kind() == "application/vnd.oasis.opendocument.text", client.ask("HEAD", path))
 
 
-SESSIONS = {"Windows": windows, "Finder": finder, "LibreOffice (as it asks)": libreoffice}
+def minimal(site):
+    """A calendar program that asks for little: what isn't there isn't told, and a response is no href alone (RFC 8144, 2.1)."""
+    client = Client(site, "macOS/13.5 (22G74) dataaccessd/1.0", Prefer="return=minimal", Brief="t")
+    client.see("a file", client.ask("PUT", "/event.ics", b"BEGIN:VCALENDAR"), 201)
+    there, not_there = f"{DAV}getetag", "{urn:ietf:params:xml:ns:caldav}calendar-data"
+    reply = client.propfind("/event.ics", "0", there, not_there)
+    told = reply.told("/event.ics")
+    site.see("what is there alone is told", told.get(there, (0,))[0] == 200 and not_there not in told, reply)
+    reply = client.propfind("/event.ics", "0", not_there)
+    propstat = ET.fromstring(reply.body).find(f"{DAV}response/{DAV}propstat")
+    site.see("of nothing that is there an empty propstat is told", propstat is not None and not list(propstat.find(f"{DAV}prop"))
+             and propstat.findtext(f"{DAV}status").split()[1] == "200", reply)
+
+
+SESSIONS = {"Windows": windows, "Finder": finder, "LibreOffice (as it asks)": libreoffice, "a calendar program": minimal}

@@ -12,6 +12,8 @@ TYPES = {
     "JPG": ["image/jpeg"], "gif": ["image/gif"], "svg": ["image/svg+xml"], "mp4": ["video/mp4"], "mp3": ["audio/mpeg"], "zip": ["application/zip"],
     "docx": ["application/vnd.openxmlformats-officedocument.wordprocessingml.document"], "odt": ["application/vnd.oasis.opendocument.text"],
 }
+# Documents in which scripts may run.
+ACTING = ["text/html", "application/xhtml+xml", "image/svg+xml", "text/xml", "application/xml"]
 
 
 def see_part(client, what, reply, body, first, last):
@@ -151,10 +153,11 @@ def browser(site):
         site.see(f"the type of .{ending}", got.kind() in types and head.kind() == got.kind(), got)
         listed = client.propfind(path, "0", f"{DAV}getcontenttype").text(path, f"{DAV}getcontenttype")
         site.see(f"the type of .{ending} in a list", listed.partition(";")[0].strip() in types, listed)
-    for ending in ("html", "svg"):
-        got = client.get(f"/shown.{ending}")
+    for ending in ("html", "htm", "xhtml", "svg", "xml", "xsl"):
+        client.see("a file", client.ask("PUT", f"/acts.{ending}", b"<p>content</p>"), 201)
+        got = client.get(f"/acts.{ending}")
         told = "sandbox" in got.field("Content-Security-Policy").replace(";", " ").split() and got.field("X-Content-Type-Options") == "nosniff"
-        site.see(f"a .{ending} that someone stored can't act for its reader", told, got, alone=True)
+        site.see(f"a .{ending} that someone stored can't act for its reader", got.kind() not in ACTING or told, got, alone=True)
     grow_old()
     body = random_bytes(LENGTH)
     client.see("a file", client.ask("PUT", "/shown.zip", body), *DONE)
