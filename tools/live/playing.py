@@ -5,12 +5,17 @@ from asking import DAV, DONE, Client, grow_old, http_date, moment, random_bytes
 from mounting import QUOTA, all_told
 
 LENGTH = 300_000
+OFFICE = "application/vnd.openxmlformats-officedocument."
 # Media types as IANA has them; of those that changed the earlier name too.
 TYPES = {
     "txt": ["text/plain"], "html": ["text/html"], "css": ["text/css"], "js": ["text/javascript", "application/javascript"],
-    "json": ["application/json"], "pdf": ["application/pdf"], "png": ["image/png"], "jpg": ["image/jpeg"], "jpeg": ["image/jpeg"],
-    "JPG": ["image/jpeg"], "gif": ["image/gif"], "svg": ["image/svg+xml"], "mp4": ["video/mp4"], "mp3": ["audio/mpeg"], "zip": ["application/zip"],
-    "docx": ["application/vnd.openxmlformats-officedocument.wordprocessingml.document"], "odt": ["application/vnd.oasis.opendocument.text"],
+    "json": ["application/json"], "xml": ["application/xml", "text/xml"], "csv": ["text/csv"], "md": ["text/markdown"], "ics": ["text/calendar"],
+    "vcf": ["text/vcard", "text/x-vcard"], "pdf": ["application/pdf"], "epub": ["application/epub+zip"], "zip": ["application/zip"],
+    "gz": ["application/gzip", "application/x-gzip"], "png": ["image/png"], "jpg": ["image/jpeg"], "jpeg": ["image/jpeg"], "JPG": ["image/jpeg"],
+    "gif": ["image/gif"], "webp": ["image/webp"], "tiff": ["image/tiff"], "heic": ["image/heic"], "svg": ["image/svg+xml"],
+    "mp4": ["video/mp4"], "webm": ["video/webm"], "mov": ["video/quicktime"], "mp3": ["audio/mpeg"], "flac": ["audio/flac", "audio/x-flac"],
+    "woff2": ["font/woff2"], "docx": [f"{OFFICE}wordprocessingml.document"], "xlsx": [f"{OFFICE}spreadsheetml.sheet"],
+    "pptx": [f"{OFFICE}presentationml.presentation"], "odt": ["application/vnd.oasis.opendocument.text"],
 }
 # Documents in which scripts may run.
 ACTING = ["text/html", "application/xhtml+xml", "image/svg+xml", "text/xml", "application/xml"]

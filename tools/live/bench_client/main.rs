@@ -2,6 +2,7 @@
 //!
 //!     client PORT put|get CONNECTIONS WARM MEASURED     files of 1,024 bytes; WARM and MEASURED are milliseconds
 //!     client PORT all|four CONNECTIONS WARM MEASURED    PROPFIND of Depth 1 of /list/: all properties, or four by name
+//!     client PORT middle|part CONNECTIONS WARM MEASURED  a file of 65,536 bytes, or as many of /large, which has 100,000,000, from 100 places
 //!     client PORT up|down BYTES                         one file of so many bytes
 //!     client PORT hollow                                a server that answers each request alike: what client and kernel can do
 //!
@@ -20,6 +21,9 @@ use std::time::{Duration, Instant};
 /// The bytes of a file that is put or got, and how many files each connection has.
 const SIZE: usize = 1024;
 const FILES: usize = 100;
+
+/// The bytes of a file of middle size, and of a part of the large one.
+const MIDDLE: usize = 65_536;
 
 const FOUR: &str = "<?xml version=\"1.0\" encoding=\"utf-8\"?><D:propfind xmlns:D=\"DAV:\"><D:prop><D:getetag/><D:getcontentlength/>\
     <D:getlastmodified/><D:resourcetype/></D:prop></D:propfind>";
@@ -151,12 +155,19 @@ fn request(method: &str, path: &str, more: &str, body: &[u8]) -> Vec<u8> {
     bytes
 }
 
+/// The field that asks for a part of middle size, from a place on.
+fn part(from: usize) -> String {
+    format!("Range: bytes={from}-{}\r\n", from + MIDDLE - 1)
+}
+
 /// The requests that a connection sends, over and over.
 fn requests(what: &str, connection: usize) -> Vec<Vec<u8>> {
     let path = |file: usize| format!("/files/{connection}-{file}");
     match what {
         "put" => (0..FILES).map(|file| request("PUT", &path(file), "", &[b'a' + (file % 26) as u8; SIZE])).collect(),
         "get" => (0..FILES).map(|file| request("GET", &path(file), "", b"")).collect(),
+        "middle" => vec![request("GET", "/files/middle", "", b"")],
+        "part" => (0..FILES).map(|place| request("GET", "/large", &part(place * 1_000_000), b"")).collect(),
         "all" => vec![request("PROPFIND", "/list/", "Depth: 1\r\n", b"")],
         "four" => vec![request("PROPFIND", "/list/", "Depth: 1\r\nContent-Type: application/xml\r\n", FOUR.as_bytes())],
         _ => usage(),
@@ -167,6 +178,8 @@ fn is_right(what: &str, said: &Said) -> bool {
     match what {
         "put" => (200..205).contains(&said.status),
         "get" => *said == Said { status: 200, length: SIZE },
+        "middle" => *said == Said { status: 200, length: MIDDLE },
+        "part" => *said == Said { status: 206, length: MIDDLE },
         _ => said.status == 207 && said.length > 100_000,
     }
 }
@@ -274,7 +287,7 @@ fn main() {
 }
 
 fn usage() -> ! {
-    fail("usage: client PORT put|get|all|four CONNECTIONS WARM MEASURED, client PORT up|down BYTES, client PORT hollow")
+    fail("usage: client PORT put|get|all|four|middle|part CONNECTIONS WARM MEASURED, client PORT up|down BYTES, client PORT hollow")
 }
 
 fn fail(what: &str) -> ! {
