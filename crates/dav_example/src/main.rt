@@ -5,7 +5,7 @@
 use anyhow::Result;
 use bytes::{Buf, Bytes};
 use dav_engine::Caller;
-use dav_http::{Handler, method_of, send};
+use dav_http::{Handler, Head, present, send};
 use http_server::Response;
 use std::alloc::Global;
 use std::io::{self, Write};
@@ -30,10 +30,15 @@ fn answer(alloc: Global, server: &mut Handler, head: &[u8], body: Bytes) -> Resu
         moment: 1_000_000_000,
         token: None,
     };
-    let reply = server.handle(alloc, head, body, &caller)?;
-    let is_head = method_of(head) == b"HEAD".as_slice();
+    let reply = server.handle(alloc, head, body.clone()?, &caller)?;
     let mut response = Response::new(alloc);
-    send(alloc, reply, is_head, &mut response)?;
+    match Head::read(head) {
+        Some(read) => {
+            let bytes = body.as_slice();
+            present(alloc, &read, bytes, caller.moment, reply, &mut response)?;
+        }
+        None => send(alloc, reply, false, &mut response)?,
+    }
     Ok(response)
 }
 

@@ -35,3 +35,7 @@ IsETag values e = IsSomeAnd (only_text values) (λ text. IsEntityTag text e)
 -- the strong comparison (RFC 9110, section 8.8.3.2): neither is weak, and the tags are equal
 abbrev pub is_strong_match : EntityTag → EntityTag → Bool
 is_strong_match e f = not e.weak && not f.weak && bytes_eq e.tag f.tag
+
+-- the weak comparison (RFC 9110, section 8.8.3.2): the tags are equal, whether weak or not
+abbrev pub is_weak_match : EntityTag → EntityTag → Bool
+is_weak_match e f = bytes_eq e.tag f.tag

@@ -28,7 +28,7 @@ impl Model for ETag {
 
 ghost use Rattle.std.specs.Prelude.{◌≡◌, ◌∷◌, [], ◌↔◌, ℕ, List, false, IfOk, IfSome, IfNone, IsErrOf, IsTrue};
 ghost use Rattle.dav_headers.specs.Value.{IsText, ReadsBy, Writes};
-ghost use Rattle.dav_headers.specs.ETag.{tag_text, EntityTag, IsUnquoted, IsEntityTag, IsETag, is_strong_match};
+ghost use Rattle.dav_headers.specs.ETag.{tag_text, EntityTag, IsUnquoted, IsEntityTag, IsETag, is_strong_match, is_weak_match};
 
 // Whether a tag's text is that of a weak tag, and what is between its quotes.
 pub(super) fn parts(text: &str) -> Option<(bool, &str)>
@@ -93,6 +93,13 @@ impl ETag {
         ensures { result ≡ is_strong_match self.now other.now }
     {
         !self.weak && !other.weak && self.tag == other.tag
+    }
+
+    /// The weak comparison (RFC 9110, section 8.8.3.2): the texts between the quotes are equal.
+    pub fn weak_eq(&self, other: &ETag) -> bool
+        ensures { result ≡ is_weak_match self.now other.now }
+    {
+        self.tag == other.tag
     }
 
     /// The tag in the only value of a header (`ETag`, RFC 9110, section 8.8.3). `Invalid` where there isn't exactly

@@ -1,12 +1,12 @@
 -- The text of the fields that are kept, and the head that it is.
-use Rattle.std.proofs.Common.{◌≡◌, ◌≢◌, ◌⊎◌, inl, inr, ℕ, suc, ◌+◌, ◌/◌, ◌%◌, ◌^◌, ◌<◌, ◌≤◌, Bool, true, false, ◌&&◌, nat_le, IsTrue, IsUtf8, List, [], ◌∷◌, ◌++◌, codes, length, length-append, map, All, take, take-suc, get_or, flat_map, reverse, Option, append-nil, append_assoc, refl, subst, sym, ap, ◌∙◌, arith}
+use Rattle.std.proofs.Common.{◌≡◌, ◌≢◌, ◌⊎◌, inl, inr, ℕ, suc, ◌+◌, ◌/◌, ◌%◌, ◌^◌, ◌<◌, ◌≤◌, Bool, true, false, ◌&&◌, nat_le, IsTrue, IsUtf8, List, [], ◌∷◌, ◌++◌, codes, length, length-append, map, filter, All, take, take-suc, get_or, flat_map, reverse, Option, append-nil, append_assoc, refl, subst, sym, ap, ◌∙◌, arith}
 use Rattle.std.specs.Fmt.{decimal}
 use Rattle.std.specs.List.{list_all}
 use Rattle.std.proofs.lemmas.Bool.{and_from, and_parts, cases_lt, cond-false, cond-true}
 use Rattle.std.proofs.lemmas.Bool.Decides.{nat_tests}
 use Rattle.std.proofs.lemmas.Fmt.{decimal_digit, decimal_step}
 use Rattle.std.proofs.lemmas.Grind.{flat_map-append}
-use Rattle.std.proofs.lemmas.List.{reverse-append, reverse-reverse}
+use Rattle.std.proofs.lemmas.List.{map-append, reverse-append, reverse-reverse}
 use Rattle.std.proofs.lemmas.List.Elements.{All-nil, All-cons, All-head, All-tail, All-append, All-filter, filter-append}
 use Rattle.std.proofs.lemmas.List.Folds.{list_all-append}
 use Rattle.http_header.specs.HeaderMap.{get_all}
@@ -18,10 +18,11 @@ use Rattle.dav_headers.specs.Timeout.{IsTimeout}
 use Rattle.dav_headers.specs.Value.{Decodes}
 use Rattle.dav_headers.specs.declared.timeout.DavTimeout.{DavTimeout}
 use Rattle.dav_engine.specs.LockHeaders.{preferred}
-use Rattle.dav_server.specs.Head.{IsHead, Request}
+use Rattle.dav_server.specs.Head.{IsHead, Request, is_same_name}
 use Rattle.dav_server.specs.Headers.{headers_of}
 use Rattle.dav_http.specs.HeadText.{field_line, head_text}
-use Rattle.dav_http.specs.Kept.{IsKeptOf, Says, is_kept, kept_fields, lock, lowered, other, timeout_field}
+use Rattle.dav_http.specs.Kept.{IsDepthless, IsKeptOf, Says, addressed, depth_field, depthless, is_kept, kept_field, kept_fields, lock, lowered, other, timeout_field}
+use Rattle.dav_http.proofs.Addressed.{bytes_pass, front_stays, last_or_none, last_stays, values_of_printed}
 use Rattle.dav_http.proofs.Printed.{decimal_printed}
 
 -- a field: its name and its value
@@ -34,13 +35,17 @@ lines is_lock fields = flat_map field_line (kept_fields is_lock fields)
 
 lines_append : (is_lock : Bool) (xs ys : List Pair) → lines is_lock (xs ++ ys) ≡ lines is_lock xs ++ lines is_lock ys
 lines_append is_lock xs ys =
-    ap (flat_map field_line) (filter-append (λ (f : Pair). is_kept is_lock f.0) xs ys) ∙ flat_map-append field_line (kept_fields is_lock xs) (kept_fields is_lock ys)
+    let test = λ (f : Pair). is_kept is_lock f.0 in
+    ap (λ (fs : List Pair). flat_map field_line (map kept_field fs)) (filter-append test xs ys)
+    ∙ ap (flat_map field_line) (map-append kept_field (filter test xs) (filter test ys))
+    ∙ flat_map-append field_line (kept_fields is_lock xs) (kept_fields is_lock ys)
 
-one_kept : (is_lock : Bool) (f : Pair) → is_kept is_lock f.0 ≡ true → lines is_lock (f ∷ []) ≡ field_line f
-one_kept is_lock f is = ap (flat_map field_line) (cond-true (is_kept is_lock f.0) (f ∷ []) [] is) ∙ append-nil (field_line f)
+one_kept : (is_lock : Bool) (f : Pair) → is_kept is_lock f.0 ≡ true → lines is_lock (f ∷ []) ≡ field_line (kept_field f)
+one_kept is_lock f is =
+    ap (λ (fs : List Pair). flat_map field_line (map kept_field fs)) (cond-true (is_kept is_lock f.0) (f ∷ []) [] is) ∙ append-nil (field_line (kept_field f))
 
 one_left : (is_lock : Bool) (f : Pair) → is_kept is_lock f.0 ≡ false → lines is_lock (f ∷ []) ≡ []
-one_left is_lock f is = ap (flat_map field_line) (cond-false (is_kept is_lock f.0) (f ∷ []) [] is)
+one_left is_lock f is = ap (λ (fs : List Pair). flat_map field_line (map kept_field fs)) (cond-false (is_kept is_lock f.0) (f ∷ []) [] is)
 
 lines_next : (is_lock : Bool) (fields : List Pair) (i : ℕ) (d : Pair) → i < length fields
     → lines is_lock (take (suc i) fields) ≡ lines is_lock (take i fields) ++ lines is_lock (get_or fields i d ∷ [])
@@ -172,19 +177,51 @@ says_request r is = (
   ap (λ (fields : List Pair). record r { fields = fields }) (sym (fields_said r.fields is.fields)),
 )
 
+-- an If whose addresses are whole URLs has no white space at its ends, as the one before
+addressed_trimmed : (v : List ℕ) → trim_ows v ≡ v → trim_ows (addressed false v) ≡ addressed false v
+addressed_trimmed v trimmed = by (last_or_none v)
+  where
+    front : skip_ows v ≡ v
+    front = ap skip_ows (sym trimmed) ∙ trimmed_front v ∙ trimmed
+
+    back : skip_ows (reverse v) ≡ reverse v
+    back = ap (λ (t : List ℕ). skip_ows (reverse t)) (sym trimmed) ∙ trimmed_back v ∙ ap reverse trimmed
+
+    first : (w : List ℕ) → skip_ows w ≡ w → skip_ows (addressed false w) ≡ addressed false w
+    first [] same = refl
+    first (b ∷ bs) same = front_stays false b bs (first_stays b bs same)
+
+    last : (w : List ℕ) (xs : List ℕ) (b : ℕ) → is_ows b ≡ false → w ≡ xs ++ b ∷ [] → skip_ows (reverse w) ≡ reverse w
+    last w xs b plain same = subst (λ (ys : List ℕ). skip_ows (reverse ys) ≡ reverse ys) (sym same) (skip_ows_no (reverse-append xs (b ∷ [])) (sym plain))
+
+    by : (v ≡ []) ⊎ ((xs : List ℕ) × (b : ℕ) × (v ≡ xs ++ b ∷ [])) → trim_ows (addressed false v) ≡ addressed false v
+    by (inl none) = subst (λ (w : List ℕ). trim_ows (addressed false w) ≡ addressed false w) (sym none) (trims_by [] refl refl)
+    by (inr (xs, b, same)) =
+        let turned : reverse v ≡ b ∷ reverse xs = ap reverse same ∙ reverse-append xs (b ∷ []) in
+        let plain : is_ows b ≡ false = first_stays b (reverse xs) (ap skip_ows (sym turned) ∙ back ∙ turned) in
+        let (more, kept) = last_stays false xs b in
+        trims_by (addressed false v) (first v front) (last (addressed false v) more b plain (ap (addressed false) same ∙ kept))
+
+field_plain : (f : Pair) → IsPlain f → IsPlain (kept_field f)
+field_plain f is = by_test (is_same_name f.0 (codes "if")) refl
+  where
+    by_test : (t : Bool) → is_same_name f.0 (codes "if") ≡ t → IsPlain (kept_field f)
+    by_test true named =
+        subst IsPlain (sym (cond-true (is_same_name f.0 (codes "if")) (f.0, addressed false f.1) f named))
+        (record { name = is.name; value = bytes_pass false f.1 is.value; trimmed = addressed_trimmed f.1 is.trimmed })
+    by_test false named = subst IsPlain (sym (cond-false (is_same_name f.0 (codes "if")) (f.0, addressed false f.1) f named)) is
+
+fields_plain : (fs : List Pair) → All IsPlain fs → All IsPlain (map kept_field fs)
+fields_plain [] all = All-nil IsPlain
+fields_plain (f ∷ fs) all =
+    All-cons IsPlain (kept_field f) (map kept_field fs) (field_plain f (All-head IsPlain f fs all)) (fields_plain fs (All-tail IsPlain f fs all))
+
 kept_plain : (is_lock : Bool) (fields : List Pair) → All IsPlain fields → All IsPlain (kept_fields is_lock fields)
-kept_plain is_lock fields all = All-filter (λ (f : Pair). is_kept is_lock f.0) IsPlain fields all
+kept_plain is_lock fields all =
+    let test = λ (f : Pair). is_kept is_lock f.0 in
+    fields_plain (filter test fields) (All-filter test IsPlain fields all)
 
 -- ---- a Timeout
-
-value_of_digit : (b : ℕ) → (nat_le 32 b && nat_le b 126) ≡ true → is_value_byte b ≡ true
-value_of_digit b is = grind (arith, nat_tests, is)
-
-values_of_printed : (bs : List ℕ) → list_all (λ b. nat_le 32 b && nat_le b 126) bs ≡ true → AllPass is_value_byte bs
-values_of_printed [] is = All-nil (λ b. IsTrue (is_value_byte b))
-values_of_printed (b ∷ bs) is =
-    let both = and_parts _ _ is in
-    All-cons (λ b. IsTrue (is_value_byte b)) b bs (value_of_digit b both.0) (values_of_printed bs both.1)
 
 each_passes : (test : ℕ → Bool) (bs : List ℕ) → list_all test bs ≡ true → AllPass test bs
 each_passes test [] is = All-nil (λ b. IsTrue (test b))
@@ -224,12 +261,26 @@ timeout_plain n small =
 
 -- ---- what is kept of a head
 
-pub kept_other : (most : ℕ) (bytes : List ℕ) (came : Request) → IsHead bytes came → came.method ≢ codes "LOCK"
+pub kept_other : (most : ℕ) (bytes : List ℕ) (came : Request) → IsHead bytes came → came.method ≢ codes "LOCK" → ¬ IsDepthless came
     → (r : Request) × IsKeptOf most came r × Says (head_text came.method came.target (kept_fields false came.fields)) r
-kept_other most bytes came is not =
+kept_other most bytes came is not told =
     let plain = plain_request bytes came is in
     let kept : Request = record came { fields = kept_fields false came.fields } in
-    (kept, other not, says_request kept (record { method = plain.method; target = plain.target; text = plain.text; fields = kept_plain false came.fields plain.fields }))
+    (kept, other not told, says_request kept (record { method = plain.method; target = plain.target; text = plain.text; fields = kept_plain false came.fields plain.fields }))
+
+depth_plain : IsPlain depth_field
+unfolding is_token_byte
+depth_plain = record { name = (omega arith, each_passes is_token_byte (codes "depth") refl); value = values_of_printed (codes "1") refl; trimmed = trims_by (codes "1") refl refl }
+
+pub kept_depthless : (most : ℕ) (bytes : List ℕ) (came : Request) → IsHead bytes came → IsDepthless came
+    → (r : Request) × IsKeptOf most came r × Says (head_text came.method came.target (kept_fields false came.fields ++ depth_field ∷ [])) r
+kept_depthless most bytes came is silent =
+    let plain = plain_request bytes came is in
+    let kept : Request = record came { fields = kept_fields false came.fields ++ depth_field ∷ [] } in
+    let all : All IsPlain kept.fields =
+    All-append IsPlain (kept_fields false came.fields) (depth_field ∷ []) (kept_plain false came.fields plain.fields)
+    (All-cons IsPlain depth_field [] depth_plain (All-nil IsPlain)) in
+    (kept, depthless silent, says_request kept (record { method = plain.method; target = plain.target; text = plain.text; fields = all }))
 
 pub kept_lock : (most n : ℕ) (bytes : List ℕ) (came : Request) (times : Option (List DavTimeout)) → IsHead bytes came → came.method ≡ codes "LOCK"
     → Decodes IsTimeout (get_all (headers_of came.fields) (codes "timeout")) times → n ≡ lowered most (preferred times) → n < 2 ^ 64
@@ -246,10 +297,16 @@ kept_lock most n bytes came times is named reads n_is small =
     )
 
 pub answers_other : (most : ℕ) (bytes method text : List ℕ) (view came : Request) → IsHead bytes view → view ≡ came → method ≡ came.method → method ≢ codes "LOCK"
-    → text ≡ head_text view.method view.target (kept_fields false view.fields) → (r : Request) × IsKeptOf most came r × Says text r
-answers_other most bytes method text view came is same named not text_is =
-    let (r, kept, says) = kept_other most bytes came (subst (IsHead bytes) same is) (λ locks. not (named ∙ locks)) in
+    → ¬ IsDepthless came → text ≡ head_text view.method view.target (kept_fields false view.fields) → (r : Request) × IsKeptOf most came r × Says text r
+answers_other most bytes method text view came is same named not told text_is =
+    let (r, kept, says) = kept_other most bytes came (subst (IsHead bytes) same is) (λ locks. not (named ∙ locks)) told in
     (r, kept, subst (λ (t : List ℕ). Says t r) (sym (text_is ∙ ap (λ (q : Request). head_text q.method q.target (kept_fields false q.fields)) same)) says)
+
+pub answers_depthless : (most : ℕ) (bytes text : List ℕ) (view came : Request) → IsHead bytes view → view ≡ came → IsDepthless came
+    → text ≡ head_text view.method view.target (kept_fields false view.fields ++ depth_field ∷ []) → (r : Request) × IsKeptOf most came r × Says text r
+answers_depthless most bytes text view came is same silent text_is =
+    let (r, kept, says) = kept_depthless most bytes came (subst (IsHead bytes) same is) silent in
+    (r, kept, subst (λ (t : List ℕ). Says t r) (sym (text_is ∙ ap (λ (q : Request). head_text q.method q.target (kept_fields false q.fields ++ depth_field ∷ [])) same)) says)
 
 pub answers_lock : (most n : ℕ) (bytes method text : List ℕ) (view came : Request) → IsHead bytes view → view ≡ came → method ≡ came.method → method ≡ codes "LOCK"
     → (times : Option (List DavTimeout)) × Decodes IsTimeout (get_all (headers_of view.fields) (codes "timeout")) times × (n ≡ lowered most (preferred times)) → n < 2 ^ 64

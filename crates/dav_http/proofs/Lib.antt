@@ -15,7 +15,11 @@ mod SentSteps
 mod SentOwners
 mod SentRequests
 mod SentTexts
+mod Addressed
 mod HeadTextLemmas
+mod PresentedLemmas
+mod ShownLemmas
+mod RefusedLemmas
 mod LeavesLemmas
 mod LeavesSteps
 pub mod OneAnswer

@@ -1,5 +1,5 @@
 -- What was saved of a server is loaded as the same server.
-use Rattle.std.proofs.Common.{◌≡◌, ◌++◌, ℕ, false, List, [], Some, refl, sym, ap, subst, ◌∙◌}
+use Rattle.std.proofs.Common.{◌≡◌, ◌++◌, ℕ, false, List, [], Some, sym, ap, ◌∙◌}
 use Rattle.std.proofs.lemmas.List.{append-nil}
 use Rattle.dav_core.specs.Locks.{Lock}
 use Rattle.dav_core.specs.World.{World}
@@ -10,7 +10,7 @@ use Rattle.dav_saved.proofs.Fields.{some_is}
 use Rattle.dav_saved.proofs.LockLaws.{locks_again}
 use Rattle.dav_saved.proofs.WorldLaws.{world_again}
 use Rattle.dav_server.specs.Server.{Server}
-use Rattle.dav_http.specs.Saved.{SavedIsLoaded, LoadsOneServer, IsSaveable, Loads, listed, most_levels, saved_bytes}
+use Rattle.dav_http.specs.Saved.{SavedIsLoaded, LoadsOneServer, IsSaveable, listed, most_levels, saved_bytes}
 
 pub world_read : (s : Server) (is : IsSaveable s) → world_at most_levels (saved_bytes s) ≡ Some (s.state.store.world, locks is.list)
 world_read s is =

@@ -134,13 +134,13 @@ outcome_sent : (outcome : Result Reply DavError) → IfOk outcome IsSent → IsS
 outcome_sent (Ok r) h = h
 outcome_sent (Err e) h = tt
 
-read_by : (content : ReplyBody) → HoldsSendable content → IsReadByClient content
+pub read_by : (content : ReplyBody) → HoldsSendable content → IsReadByClient content
 read_by reply.Nothing h = tt
 read_by (reply.Bytes bytes) h = tt
 read_by (reply.Tree tree) h = λ deep few short. sendable_is_read tree h deep few short
 
 record Stepped (r : Reply) (new : StoreState) (ms : Locks) : Type 0 where
-  read : IsReadByClient r.body
+  sendable : HoldsSendable r.body
   state : IsSendableState new ms
   world : IsWorld new.world
 
@@ -148,7 +148,7 @@ stepped : (s : Settings) (x : Exchange) (old new : StoreState) (ls ms : Locks) (
 stepped s x old new ls ms r world small h state (steps plan outcome means ran) =
     let sent = sends_ran (means_sends h means) (means_proper small means) world state.keeps state.holds ran in
     record {
-      read = read_by (reply_to outcome).body (outcome_sent outcome sent.gives);
+      sendable = outcome_sent outcome sent.gives;
       state = record { keeps = sent.world; holds = sent.locks };
       world = (proper_keeps (means_proper small means) world ran).world;
     }
@@ -156,7 +156,7 @@ stepped s x old new ls ms r world small h state (steps plan outcome means ran) =
 pub steps_are_read_again : StepsAreReadAgain
 steps_are_read_again s x old new ls ms r world small h state step =
     let done = stepped s x old new ls ms r world small h state step in
-    (done.read, done.state)
+    (read_by r.body done.sendable, done.state)
 
 abbrev Moment : Turn → Type 0
 Moment t = t.asked.moment ≤ last_moment
@@ -168,7 +168,7 @@ runs_are_read_again s (t ∷ ts) old new ls ms rs world small all state (one_mor
     let at : IsSendableState (begun t.refusals old) ls = record { keeps = subst KeepsSendable (sym same) state.keeps; holds = state.holds } in
     let done = stepped s t.asked (begun t.refusals old) mid ls ks r (subst IsWorld (sym same) world) (All-head Moment t ts small) all.0 at step in
     let more = runs_are_read_again s ts mid new ks ms others done.world (All-tail Moment t ts small) all.1 done.state rest in
-    ((done.read, more.0), more.1)
+    ((read_by r.body done.sendable, more.0), more.1)
 
 pub new_is_sendable : NewIsSendable
 new_is_sendable next store is =
@@ -191,10 +191,10 @@ cuts_stay_sendable s x old new ls ms world small h state short = elim (cuts_are_
 -- ---- servers
 
 pub server_answers : (s : Settings) (x : Exchange) (old new : ServerState) (r : Reply) → IsSendableServer old → x.moment ≤ last_moment → IsSendableRequest x → Steps s x old.store old.locks r new.store new.locks
-    → IsReadByClient r.body × IsSendableServer new
+    → HoldsSendable r.body × IsSendableServer new
 server_answers s x old new r o small h step =
     let done = stepped s x old.store new.store old.locks new.locks r o.world small h o.state step in
-    (done.read, record { world = done.world; state = done.state })
+    (done.sendable, record { world = done.world; state = done.state })
 
 pub server_stops : (s : Settings) (x : Exchange) (old new : ServerState) → IsSendableServer old → x.moment ≤ last_moment → IsSendableRequest x → StepCut s x old.store old.locks new.store new.locks → IsSendableServer new
 server_stops s x old new o small h short = record {

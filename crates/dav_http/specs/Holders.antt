@@ -1,5 +1,5 @@
 -- Whose the locks are that an UNLOCK may end (RFC 4918, sections 6.4 and 9.11).
-use Rattle.std.specs.Prelude.{◌≡◌, ◌⊎◌, ⊤, List, ℕ, Option, Some, None}
+use Rattle.std.specs.Prelude.{◌≡◌, ◌⊎◌, ⊤, List, ℕ, Some, None}
 use Rattle.std.specs.List.{AllByRecursion}
 use Rattle.std.specs.Str.Iter.{HasSubslice}
 use Rattle.dav_core.specs.Locks.{Lock}

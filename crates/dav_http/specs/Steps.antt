@@ -16,7 +16,7 @@ use Rattle.dav_xml.specs.declared.error.Fault.{Fault}
 use Rattle.dav_xml.specs.Namespaces.{document}
 use Rattle.dav_xml.specs.Written.{document_of}
 use Rattle.dav_http.specs.Owners.{prefixed_owners}
-use Rattle.dav_http.specs.Sent.{IsReadByClient}
+use Rattle.dav_http.specs.Sent.{HoldsSendable}
 
 -- a method whose body is an element tree (RFC 4918, sections 9.1, 9.2 and 9.10)
 abbrev pub TakesTree : List ℕ → Type 0
@@ -52,14 +52,14 @@ pub record IsExchangeOf (head bytes : List ℕ) (who : Caller) (x : Exchange) : 
   pub token : IsTokenOf who.token x.token
 
 -- A reply to a request with this head and a body of these bytes, and the server that is left: they are those of a step of the machine in
--- which memory lasts, and the element tree of the reply, if it has one, is read by its client (RFC 4918, section 8.2).
+-- which memory lasts, and the element tree of the reply, if it has one, may be sent (RFC 4918, section 8.2).
 pub record IsStepFor (head bytes : List ℕ) (who : Caller) (old : Server) (r : Reply) (new : Server) : Type 0 where
   pub exchange : Exchange
   pub is_exchange : IsExchangeOf head bytes who exchange
   pub answers : Answers old exchange r new
   pub same : new.settings ≡ old.settings
   pub ample : new.state.store.short ≡ false
-  pub read : IsReadByClient r.body
+  pub told : HoldsSendable r.body
 
 -- A request has one answer: any two steps for it from one server have the same reply, and leave the same server.
 abbrev pub StepsAreOne : Type 0

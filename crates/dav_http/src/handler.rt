@@ -7,6 +7,7 @@ ghost use Rattle.dav_http.specs.Sent.{IsSendableTextIfAny};
 ghost use Rattle.dav_http.specs.Steps.{IsBodyOf, IsExchangeOf, IsTokenOf};
 
 mod holders;
+mod refused;
 mod saved;
 
 use crate::head::{Head, takes_tree};
@@ -151,7 +152,7 @@ impl Handler {
     ghost use Rattle.dav_server.specs.Setup.{IsPrefix};
     ghost use Rattle.dav_store.specs.LockEnds.{first_ended};
     ghost use Rattle.dav_http.specs.Leaves.{Leaves};
-    ghost use Rattle.dav_http.specs.Sent.{IsReadByClient, IsSendableTextIfAny};
+    ghost use Rattle.dav_http.specs.Sent.{HoldsSendable, IsSendableTextIfAny};
     ghost use Rattle.dav_http.specs.SentLaws.{IsSendableRequest};
     ghost use Rattle.dav_http.specs.Steps.{IsStepFor, new_server};
 
@@ -169,7 +170,7 @@ impl Handler {
     }
 
     /// The reply to a request with this head and a body of these bytes, by this caller: those of a step of the machine. What
-    /// the client is told in XML it can read (RFC 4918, section 8.2). A request that only reads, one of a method that isn't
+    /// the client is told in XML may be sent, so it can be read (RFC 4918, section 8.2). A request that only reads, one of a method that isn't
     /// served, and one that is refused by a condition or a lock leave the server as it was (`Leaves`).
     ///
     /// `Principal` exactly where a reply can't tell the caller's name; nothing is changed then. `Memory` where memory runs out.
@@ -208,7 +209,7 @@ impl Handler {
         ensures answers { IfOk result (λ reply.
             Answers self.old.server exchange.now reply self.new.server) }
         ensures ample { OnOk result (self.new.server.state.store.short ≡ false) }
-        ensures read { IfOk result (λ reply. IsReadByClient reply.body) }
+        ensures told { IfOk result (λ reply. HoldsSendable reply.body) }
         ensures left { IfOk result (λ reply. Leaves exchange.now.head reply.status
             → self.new.server ≡ self.old.server) }
         ensures memory { OnErr result (result ≡ Err HandleError.Memory) }

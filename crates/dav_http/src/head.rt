@@ -44,12 +44,13 @@ impl<'a> Model for Head<'a> {
 }
 
 impl<'a> Head<'a> {
-    ghost use Rattle.std.specs.Prelude.{◌≡◌, ◌↔◌, ℕ, IfOk, IsTrue, List, MatchOption};
+    ghost use Rattle.std.specs.Prelude.{◌≡◌, ◌↔◌, ℕ, [], IfOk, IsTrue, List, MatchOption};
     ghost use Rattle.std.specs.Option.{option_map};
     ghost use Rattle.std.specs.List.{slice_get};
     ghost use Rattle.dav_http.specs.Leaves.{Leaves};
     ghost use Rattle.dav_server.specs.Head.{Request, IsHead, values_of};
-    ghost use Rattle.dav_http.specs.Kept.{IsKeptOf, Says};
+    ghost use Rattle.dav_http.specs.Kept.{IsDepthless, IsKeptOf, Says};
+    ghost use Rattle.std.specs.Bool.{Decides};
 
     /// Reads a head that is all of the bytes; none where the machine reads none in them. Allocates nothing.
     pub fn read(bytes: &'a [u8]) -> Option<Head<'a>>
@@ -58,6 +59,13 @@ impl<'a> Head<'a> {
     {
         let view = read_head(bytes).ok()?;
         Some(Head { bytes, view })
+    }
+
+    // What was read.
+    pub(crate) fn view(&self) -> &RequestView<'a>
+        ensures { result.now ≡ self.now }
+    {
+        &self.view
     }
 
     /// The method, as it is in the request line (RFC 9112, section 3.1).
@@ -90,18 +98,38 @@ impl<'a> Head<'a> {
         method_leaves(self.method(), status)
     }
 
-    /// The head that is run and kept: without the fields that show who asks, and those that speak of the connection alone; and
-    /// in place of a LOCK's Timeout one of the seconds that it asks for, at most `most` (RFC 4918, section 10.7).
+    // Whether there is no field with this name.
+    pub(crate) fn lacks(&self, name: &str) -> bool
+        ensures { Decides result (values_of name.now self.now.fields ≡ []) }
+    {
+        match self.value(name) {
+            Some(_) => false,
+            None => true,
+        }
+    }
+
+    // Whether it is a PROPFIND without a Depth (RFC 4918, section 9.1).
+    fn is_depthless(&self) -> bool
+        ensures { Decides result (IsDepthless self.now) }
+    {
+        self.method() == b"PROPFIND".as_slice() && self.lacks("depth")
+    }
+
+    /// The head that is run and kept: without the fields that show who asks, and those that speak of the connection alone; in an
+    /// If each address of a resource is a whole URL (RFC 4918, section 10.4.2); in place of a LOCK's Timeout there is one of the
+    /// seconds that it asks for, at most `most` (section 10.7); and a PROPFIND without a Depth has one of 1 (section 9.1).
     pub fn kept(&self, alloc: Global, most: u32) -> Result<Vec<u8>, NoMemory>
         ensures { IfOk result (λ kept. (r : Request)
             × IsKeptOf most self.now r × Says kept.items r) }
     {
         if is_lock(self.method()) {
             let seconds = wanted_seconds(alloc, &self.view, most)?;
-            text::lock_text(alloc, &self.view, seconds)
-        } else {
-            text::other_text(alloc, &self.view)
+            return text::lock_text(alloc, &self.view, seconds);
         }
+        if self.is_depthless() {
+            return text::depth_text(alloc, &self.view);
+        }
+        text::other_text(alloc, &self.view)
     }
 }
 

@@ -1,4 +1,6 @@
 //! Laws of replies. Each function does nothing: its contract is a theorem on the definitions.
+ghost use Rattle.dav_http.specs.Presented.{ShownIsReadAgain};
+ghost use Rattle.dav_http.specs.Refused.{NoUpdateIsLost};
 ghost use Rattle.dav_http.specs.Saved.{LoadsOneServer, SavedIsLoaded};
 ghost use Rattle.dav_http.specs.Steps.{StepsAreOne};
 ghost use Rattle.dav_http.specs.SentLaws.{CutsStaySendable, NewIsSendable, RunsAreReadAgain, StepsAreReadAgain, PrefixedOwnersMayBeSent, UsualOwnersMayBeSent};
@@ -43,4 +45,17 @@ pub fn steps_are_one()
 pub fn saved_is_loaded()
     ensures saved { SavedIsLoaded }
     ensures one { LoadsOneServer }
+{}
+
+/// An update that is run isn't one that its client would lose: where it has If-Unmodified-Since with a date, and no If-Match, what is at
+/// its target was changed at that moment or before (RFC 9110, section 13.1.4).
+#[tactic(auto, using(crate::proofs::RefusedLemmas::no_update_is_lost))]
+pub fn no_update_is_lost()
+    ensures { NoUpdateIsLost }
+{}
+
+/// What a client is told in XML it can read, as it is and as it is shown to a PROPFIND, within the same limits (RFC 4918, section 8.2).
+#[tactic(auto, using(crate::proofs::ShownLemmas::shown_is_read_again))]
+pub fn shown_is_read_again()
+    ensures { ShownIsReadAgain }
 {}

@@ -10,6 +10,7 @@ mod handler;
 mod head;
 pub mod laws;
 mod owner;
+mod presented;
 mod response;
 mod sendable;
 #[cfg(test)]
@@ -18,5 +19,6 @@ mod tests;
 pub use ending::unlock_head;
 pub use handler::{HandleError, Handler, method_of};
 pub use head::{Head, is_lock, is_safe, leaves, takes_tree};
+pub use presented::present;
 pub use response::send;
 pub use sendable::is_sendable_if_any;

@@ -13,7 +13,7 @@ use http_server::Response;
 use std::alloc::{AllocError, Global};
 
 // The body of a reply: an element tree is sent as XML.
-fn body_of(alloc: Global, body: ReplyBody) -> Result<Bytes, AllocError>
+pub(crate) fn body_of(alloc: Global, body: ReplyBody) -> Result<Bytes, AllocError>
     ensures { IfOk result (λ sent. sent ≡ sent_bytes body) }
 {
     match body {
@@ -27,7 +27,7 @@ fn body_of(alloc: Global, body: ReplyBody) -> Result<Bytes, AllocError>
 }
 
 // Whether a field with this name is sent.
-fn is_sent(is_head: bool, name: &str) -> bool
+pub(crate) fn is_sent(is_head: bool, name: &str) -> bool
     ensures { result ≡ is_sent is_head name.now }
 {
     is_head || name != "content-length"

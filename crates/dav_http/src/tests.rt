@@ -1,6 +1,8 @@
 //! Requests as rows of text: what is kept of a head, and what a server answers. In a row `^` is
 //! CRLF.
 
+mod presented;
+mod refused;
 mod saved;
 
 use crate::{HandleError, Handler, Head, is_sendable_if_any, leaves, send, unlock_head};
@@ -26,6 +28,14 @@ LOCK /a HTTP/1.1^^ -> LOCK /a HTTP/1.1^timeout:Second-3600^^
 LOCK /a HTTP/1.1^Timeout: soon^^ -> LOCK /a HTTP/1.1^timeout:Second-3600^^
 LOCK /a HTTP/1.1^Timeout: Second-60^Timeout: Second-60^^ -> LOCK /a HTTP/1.1^timeout:Second-3600^^
 lock /a HTTP/1.1^Timeout: Second-4100000000^^ -> lock /a HTTP/1.1^Timeout:Second-4100000000^^
+# paths in an If, but not what stands between quotes (RFC 4918, section 10.4.2)
+PUT /a HTTP/1.1^If: </d> (<urn:t>)^^ -> PUT /a HTTP/1.1^If:<http://localhost/d> (<urn:t>)^^
+PUT /a HTTP/1.1^IF: </d>([\"</x\"]) </e>(Not <b>)^^ -> PUT /a HTTP/1.1^IF:<http://localhost/d>([\"</x\"]) <http://localhost/e>(Not <b>)^^
+LOCK /a HTTP/1.1^If: </>(<b>)^^ -> LOCK /a HTTP/1.1^If:<http://localhost/>(<b>)^timeout:Second-3600^^
+PUT /a HTTP/1.1^If: <http://h/d> (<urn:t>)^If-Match: \"</d>\"^^ -> PUT /a HTTP/1.1^If:<http://h/d> (<urn:t>)^If-Match:\"</d>\"^^
+# how deep a PROPFIND goes (RFC 4918, section 9.1)
+PROPFIND /a HTTP/1.1^X: 1^^ -> PROPFIND /a HTTP/1.1^X:1^depth:1^^
+PROPFIND /a HTTP/1.1^DEPTH: 0^^ -> PROPFIND /a HTTP/1.1^DEPTH:0^^
 # no heads
 GET /a HTTP/1.1^ -> none
 GET /a HTTP/1.1^Host : h^^ -> none
@@ -129,7 +139,7 @@ const ENDS: &str = "\
 ";
 
 // The bytes of a text in a row.
-fn unescaped(alloc: Global, text: &str) -> Result<Vec<u8>, AllocError> {
+pub(crate) fn unescaped(alloc: Global, text: &str) -> Result<Vec<u8>, AllocError> {
     let mut out = Vec::new(alloc);
     for byte in text.as_bytes() {
         if *byte == b'^' {
@@ -161,7 +171,7 @@ fn heads_are_kept(rt: HostRuntime) -> Result<(), Fail> {
             count = count.saturating_add(1);
         }
     }
-    assert!(rt; count == 14, "{count} rows");
+    assert!(rt; count == 20, "{count} rows");
     Ok(())
 }
 
@@ -176,8 +186,17 @@ fn body_at(bytes: &[u8]) -> usize {
     }
 }
 
+// The head and the body of a request.
+pub(crate) fn parts(bytes: &[u8]) -> (&[u8], &[u8]) {
+    let place = body_at(bytes);
+    (
+        bytes.get(..place).unwrap_or(bytes),
+        bytes.get(place..).unwrap_or(&[]),
+    )
+}
+
 // The value of the first field with a name.
-fn value_in<'r>(response: &'r Response, name: &str) -> Option<&'r [u8]> {
+pub(crate) fn value_in<'r>(response: &'r Response, name: &str) -> Option<&'r [u8]> {
     for (field, value) in response.headers.iter() {
         if field.as_str() == name {
             return Some(value.as_bytes());
@@ -199,9 +218,7 @@ fn add_answer(alloc: Global, out: &mut Vec<u8>, response: &Response) -> Result<(
 
 // What a server answers.
 fn answer(alloc: Global, server: &mut Handler, bytes: &[u8]) -> Result<Vec<u8>, HandleError> {
-    let place = body_at(bytes);
-    let head = bytes.get(..place).unwrap_or(bytes);
-    let body = bytes.get(place..).unwrap_or(&[]);
+    let (head, body) = parts(bytes);
     let caller = Caller {
         principal: Some("anna"),
         moment: 1_000_000_000,

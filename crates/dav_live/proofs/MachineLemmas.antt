@@ -1,5 +1,5 @@
 -- What the answer of a machine is, by its parts.
-use Rattle.std.proofs.Common.{◌≡◌, ◌⊎◌, ◌↔◌, inl, inr, ℕ, Bool, true, List, codes, refl, ap, subst, sym, ◌∙◌}
+use Rattle.std.proofs.Common.{◌≡◌, ◌⊎◌, inl, inr, ℕ, List, Option, Some, None, refl, subst, sym, ◌∙◌}
 use Rattle.http_server.specs.declared.response.Response.{Response}
 use Rattle.dav_core.specs.declared.method.DavMethod.TheVariants.{Get, Head}
 use Rattle.dav_engine.specs.Reply.{Reply}
@@ -9,7 +9,8 @@ use Rattle.dav_server.proofs.HeadLemmas.{one_head}
 use Rattle.dav_http.specs.Leaves.{Leaves, reading}
 use Rattle.dav_http.specs.Steps.{IsStepFor}
 use Rattle.dav_kept.specs.Records.{RequestView}
-use Rattle.dav_live.specs.Answers.{AsksToSee, IsAnswer, IsSentFor, TellsHead, caller_of, replied, shown}
+use Rattle.dav_http.specs.Refused.{Refuses, Tells}
+use Rattle.dav_live.specs.Answers.{AsksToSee, IsAnswer, IsForeignUnlock, IsNotRun, IsSentFor, caller_of, foreign, refused, replied, shown}
 
 -- a GET or HEAD leaves the server
 seeing_leaves : (head : List ℕ) (status : ℕ) → AsksToSee head → Leaves head status
@@ -22,22 +23,35 @@ module _ (old mid : Server) (q : RequestView) (head : List ℕ) (same : head ≡
   pub folder_leaves : (reply.status ≡ 405) × AsksToSee head → mid ≡ old
   folder_leaves (status, sees) = left (seeing_leaves q.head reply.status (subst AsksToSee same sees))
 
-  pub folder_answered : (new : Server) → (reply.status ≡ 405) × AsksToSee head → (new ≡ mid) × ((sent.status ≡ 200) ⊎ IsSentFor q.head reply sent) → IsAnswer old q sent new
+  pub folder_answered : (new : Server) → (reply.status ≡ 405) × AsksToSee head → (new ≡ mid) × ((sent.status ≡ 200) ⊎ IsSentFor q reply sent) → IsAnswer old q sent new
   folder_answered new (status, sees) (is_mid, inl page) =
       let was = folder_leaves (status, sees) in
       subst (IsAnswer old q sent) (sym (is_mid ∙ was)) (shown reply (subst AsksToSee same sees) (subst (IsStepFor q.head q.body (caller_of q) old reply) was step) status page)
   folder_answered new for_folder (is_mid, inr is_sent) = subst (IsAnswer old q sent) (sym is_mid) (replied reply step is_sent)
 
-  pub reply_answered : IsSentFor head reply sent → IsAnswer old q sent mid
-  reply_answered is_sent = replied reply step (subst (λ (h : List ℕ). IsSentFor h reply sent) same is_sent)
+  pub reply_answered : IsSentFor q reply sent → IsAnswer old q sent mid
+  reply_answered is_sent = replied reply step is_sent
 
-  pub reply_leaves : Leaves head reply.status → mid ≡ old
-  reply_leaves leaves = left (subst (λ (h : List ℕ). Leaves h reply.status) same leaves)
+-- ---- what isn't run
 
--- whether a request with a head that was read is a HEAD
-pub tells_head : (head : List ℕ) (r : Request) (method : List ℕ) (is_head : Bool) → IsHead head r → method ≡ r.method → ((is_head ≡ true) ↔ (method ≡ codes "HEAD")) → TellsHead head is_head
-tells_head head r method is_head is named tells q also =
-    let same : method ≡ q.method = named ∙ ap (λ (x : Request). x.method) (one_head head r q is also) in (
-      λ yes. sym same ∙ tells.0 yes,
-      λ is_so. tells.1 (same ∙ is_so),
-    )
+module _ (s : Server) (came : Request) (q : RequestView) (own : (user : List ℕ) → q.principal ≡ Some user → ¬ IsForeignUnlock s.state.locks came user) where
+  pub not_run_by : (kept : Request) → IsHead q.head kept → (status : Option ℕ) → Tells (Refuses s kept q.body) status → Tells (IsNotRun s came q) status
+  not_run_by kept is (Some n) refuses = refused kept own is refuses
+  not_run_by kept is None none = by
+    where
+      by : (n : ℕ) → ¬ IsNotRun s came q n
+      by _ (foreign user named unlock) = own user named unlock
+      by n (refused other mine also refuses) = none n (subst (λ (k : Request). Refuses s k q.body n) (one_head q.head other kept also is) refuses)
+
+  pub not_run_headless : ((r : Request) → ¬ IsHead q.head r) → (n : ℕ) → ¬ IsNotRun s came q n
+  not_run_headless none _ (foreign user named unlock) = own user named unlock
+  not_run_headless none n (refused kept mine is refuses) = none kept is
+
+-- the same, by what was asked of the machine and the request
+pub not_run_from : {at s : Server} {asked q : RequestView} (came kept : Request) (body : List ℕ) → at ≡ s → asked ≡ q
+    → ((user : List ℕ) → q.principal ≡ Some user → ¬ IsForeignUnlock s.state.locks came user) → IsHead asked.head kept → body ≡ asked.body
+    → (status : Option ℕ) → Tells (Refuses at kept body) status → Tells (IsNotRun s came q) status
+not_run_from {at} {s} {asked} {q} came kept body same alike own is content status refuses =
+    not_run_by s came q own kept (subst (λ (v : RequestView). IsHead v.head kept) alike is) status
+    (subst (λ (v : RequestView). Tells (Refuses s kept v.body) status) alike
+    (subst (λ (b : List ℕ). Tells (Refuses s kept b) status) content (subst (λ (x : Server). Tells (Refuses x kept body) status) same refuses)))

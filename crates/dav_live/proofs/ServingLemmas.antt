@@ -12,7 +12,8 @@ use Rattle.dav_live.specs.Admission.{AdmissionView, IsRequestOf, IsTokenFor, nex
 use Rattle.dav_live.specs.declared.admission.Admitted.{Admitted}
 use Rattle.dav_live.specs.Numbered.{HasNumber}
 use Rattle.dav_live.specs.Runs.{GoesOn}
-use Rattle.dav_live.specs.Serving.{EndsLocks, IsEnded, IsForbidden, IsPassed, IsResponseTo, IsRun, admission_of, forbidden, run, answered, held_of, kept_of, one, own_request}
+use Rattle.dav_http.specs.Refused.{Tells}
+use Rattle.dav_live.specs.Serving.{EndsLocks, IsEnded, IsPassed, IsResponseTo, IsRun, admission_of, run, answered, held_of, kept_of, one, own_request, not_run}
 use Rattle.dav_live.specs.declared.service.Service.{Service}
 use Rattle.dav_core.specs.World.{last_moment}
 
@@ -82,17 +83,28 @@ passed_later answers is_clean kept ends (Err e) old new seconds a later ended sa
 
 -- ---- a request that was admitted
 
-pub ran_or_forbidden : {S : Type 0} (answers : S → RequestView → Response → S → Type 0) (forbids : S → Request → List ℕ → Type 0) (a b : AdmissionView) (old new noted : Holding S)
+pub ran_or_not : {S : Type 0} (answers : S → RequestView → Response → S → Type 0) (refuses : S → Request → RequestView → ℕ → Type 0) (a b : AdmissionView) (old new noted : Holding S)
     (asked : Asked) (r : Request) (admitted : Admitted) (own : Response) → IsHead asked.head r → IsRequestOf a old.tokens r asked.body (request_in a admitted asked.body) → b ≡ a → noted ≡ new
-    → (IsForbidden forbids old.state r (request_in b admitted asked.body) × IsResponse 403 [] [] own × (new ≡ old))
-    ⊎ ((¬ IsForbidden forbids old.state r (request_in b admitted asked.body)) × IsRun answers old (request_in b admitted asked.body) own new)
-    → IsResponseTo answers forbids a old asked own noted
-ran_or_forbidden answers forbids a b old new noted asked r admitted own is request same noted-is (inl (may-not, answer, left)) =
-    forbidden r (request_in a admitted asked.body) is request (subst (λ (x : AdmissionView). IsForbidden forbids old.state r (request_in x admitted asked.body)) same may-not) answer (noted-is ∙ left)
-ran_or_forbidden {S} answers forbids a b old new noted asked r admitted own is request same noted-is (inr (may, ran)) =
-    run r (request_in a admitted asked.body) is request (subst (λ (x : AdmissionView). ¬ IsForbidden forbids old.state r (request_in x admitted asked.body)) same may)
+    → ((status : ℕ) × refuses old.state r (request_in b admitted asked.body) status × IsResponse status [] [] own × (new ≡ old))
+    ⊎ (((status : ℕ) → ¬ refuses old.state r (request_in b admitted asked.body) status) × IsRun answers old (request_in b admitted asked.body) own new)
+    → IsResponseTo answers refuses a old asked own noted
+ran_or_not answers refuses a b old new noted asked r admitted own is request same noted-is (inl (status, refused, answer, left)) =
+    not_run r (request_in a admitted asked.body) status is request (subst (λ (x : AdmissionView). refuses old.state r (request_in x admitted asked.body) status) same refused) answer (noted-is ∙ left)
+ran_or_not {S} answers refuses a b old new noted asked r admitted own is request same noted-is (inr (may, ran)) =
+    run r (request_in a admitted asked.body) is request (subst (λ (x : AdmissionView). (status : ℕ) → ¬ refuses old.state r (request_in x admitted asked.body) status) same may)
     (subst (λ (h : Holding S). IsRun answers old (request_in a admitted asked.body) own h) (sym noted-is)
     (subst (λ (x : AdmissionView). IsRun answers old (request_in x admitted asked.body) own new) same ran))
 
-pub forbidden_or_not : {P Q : Type 0} (b : Bool) → (b ≡ true → P) × (P → b ≡ true) → b ≡ false → Q → (¬ P) × Q
-forbidden_or_not b tells other q = ((λ p. let bad : false ≡ true = sym other ∙ tells.1 p in cc), q)
+pub not_refused : {S E : Type 0} (answers : S → RequestView → Response → S → Type 0) (refuses : S → Request → RequestView → ℕ → Type 0) (P : Type 0) (state : S) (old new : Holding S)
+    (came : Request) (q r : RequestView) (own : Response) (status : Option ℕ) (result : Result (Unit {0}) E) → state ≡ old.state → q ≡ r → status ≡ None
+    → Tells (refuses state came q) status → OnOk result (IsRun answers old q own new)
+    → OnOk result (P ⊎ (((n : ℕ) → ¬ refuses old.state came r n) × IsRun answers old r own new))
+not_refused {S} answers refuses P state old new came q r own status result at same none tells ran =
+    let never : Tells (refuses old.state came r) None =
+    subst (λ (s : S). Tells (refuses s came r) None) at (subst (λ (v : RequestView). Tells (refuses state came v) None) same (subst (Tells (refuses state came q)) none tells)) in
+    on_ok result (λ done. inr (never, subst (λ (v : RequestView). IsRun answers old v own new) same done)) ran
+
+pub refused_by : {S : Type 0} (refuses : S → Request → RequestView → ℕ → Type 0) (state was : S) (came : Request) (q r : RequestView) (status : Option ℕ) (n : ℕ) → state ≡ was → q ≡ r
+    → status ≡ Some n → Tells (refuses state came q) status → refuses was came r n
+refused_by {S} refuses state was came q r status n at same some tells =
+    subst (λ (s : S). refuses s came r n) at (subst (λ (v : RequestView). refuses state came v n) same (subst (Tells (refuses state came q)) some tells))

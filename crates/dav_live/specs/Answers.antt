@@ -1,5 +1,5 @@
 -- How the machine of a live server answers (RFC 9110, section 3; RFC 4918, section 8).
-use Rattle.std.specs.Prelude.{◌≡◌, ◌⊎◌, ◌↔◌, ℕ, Bool, true, List, Option, Some, None, codes}
+use Rattle.std.specs.Prelude.{◌≡◌, ◌⊎◌, ◌↔◌, ℕ, Bool, true, false, List, Option, Some, None, codes}
 use Rattle.std.specs.Str.{IsUtf8}
 use Rattle.http_server.specs.declared.response.Response.{Response}
 use Rattle.dav_core.specs.Locks.{Lock}
@@ -10,6 +10,8 @@ use Rattle.dav_server.specs.Head.{IsHead, Request}
 use Rattle.dav_server.specs.Server.{Server}
 use Rattle.dav_http.specs.Ending.{IsUnlockHead}
 use Rattle.dav_http.specs.Holders.{NamesOwn}
+use Rattle.dav_http.specs.Presented.{IsShown}
+use Rattle.dav_http.specs.Refused.{Refuses}
 use Rattle.dav_http.specs.Sending.{IsSentAs}
 use Rattle.dav_http.specs.Steps.{IsStepFor}
 use Rattle.dav_kept.specs.Records.{RequestView}
@@ -28,18 +30,15 @@ HasMethod method head = (r : Request) × IsHead head r × (r.method ≡ method)
 abbrev pub AsksToSee : List ℕ → Type 0
 AsksToSee head = HasMethod (codes "GET") head ⊎ HasMethod (codes "HEAD") head
 
--- this says whether a request with this head is a HEAD
-abbrev pub TellsHead : List ℕ → Bool → Type 0
-TellsHead head is_head = (r : Request) → IsHead head r → (is_head ≡ true) ↔ (r.method ≡ codes "HEAD")
-
--- a reply to a request with this head, as it is sent
-abbrev pub IsSentFor : List ℕ → Reply → Response → Type 0
-IsSentFor head r sent = (is_head : Bool) × TellsHead head is_head × IsSentAs is_head r sent
+-- What is sent to a request of a reply to it: what its client is shown; as it is where the bytes of its head are none.
+pub data IsSentFor (q : RequestView) (r : Reply) (sent : Response) : Type 0 where
+  headless : ((h : Request) → ¬ IsHead q.head h) → IsSentAs false r sent → IsSentFor q r sent
+  presented : (h : Request) → IsHead q.head h → IsShown h q.body q.moment r sent → IsSentFor q r sent
 
 -- The response to a request, and the server that is left: the reply of a step of the machine, as it is sent; or, where that is 405 to the
 -- GET or HEAD of a folder, a page of 200 for a person, and then the server is as it was.
 pub data IsAnswer (old : Server) (q : RequestView) (sent : Response) : Server → Type 0 where
-  replied : {new : Server} (r : Reply) → IsStepFor q.head q.body (caller_of q) old r new → IsSentFor q.head r sent → IsAnswer old q sent new
+  replied : {new : Server} (r : Reply) → IsStepFor q.head q.body (caller_of q) old r new → IsSentFor q r sent → IsAnswer old q sent new
   shown : (r : Reply) → AsksToSee q.head → IsStepFor q.head q.body (caller_of q) old r old → r.status ≡ 405 → sent.status ≡ 200 → IsAnswer old q sent old
 
 -- a request is an UNLOCK that names a lock of another than this user, or of nobody: knowing its token gives no right to end it (RFC 4918,
@@ -47,6 +46,13 @@ pub data IsAnswer (old : Server) (q : RequestView) (sent : Response) : Server �
 abbrev pub IsForeignUnlock : Locks → Request → List ℕ → Type 0
 IsForeignUnlock locks r user =
     (r.method ≡ codes "UNLOCK") × ((text : List ℕ) × (value_of (codes "lock-token") r ≡ Some text) × IsUtf8 text × (¬ NamesOwn locks user text))
+
+-- A request that came, and would be run as that one, isn't run, and is answered with this status: 403 for an UNLOCK of another's lock (RFC
+-- 9110, section 15.5.4); or the status with which the server refuses it for its conditions, or for what it asks.
+pub data IsNotRun (s : Server) (came : Request) (q : RequestView) : ℕ → Type 0 where
+  foreign : (user : List ℕ) → q.principal ≡ Some user → IsForeignUnlock s.state.locks came user → IsNotRun s came q 403
+  refused : {status : ℕ} (kept : Request) → ((user : List ℕ) → q.principal ≡ Some user → ¬ IsForeignUnlock s.state.locks came user)
+      → IsHead q.head kept → Refuses s kept q.body status → IsNotRun s came q status
 
 -- The request with this head is the UNLOCK of the first lock of a list whose time ended at this moment or before; none where there is no
 -- such lock (RFC 4918, sections 6.6 and 9.11).

@@ -39,21 +39,17 @@ pub data IsRun {S : Type 0} (answers : S → RequestView → Response → S → 
   answered : (does : Effect) → IsAnswerOf answers old q own does new → IsRun answers old q own new
   full : IsResponse 507 [] [] own → new ≡ old → IsRun answers old q own new
 
--- the user of a request may not make it, in this state
-abbrev pub IsForbidden : {S : Type 0} → (S → Request → List ℕ → Type 0) → S → Request → RequestView → Type 0
-IsForbidden forbids state r q = (user : List ℕ) × (q.principal ≡ Some user) × forbids state r user
-
 -- The response to a request, but for its date, and what is held then: 400 where its head is none (RFC 9110, section 15.5.1); the refusal
--- of one that isn't run; 403 where its user may not make it (RFC 9110, section 15.5.4); and else that of the request that is run of it.
-pub data IsResponseTo {S : Type 0} (answers : S → RequestView → Response → S → Type 0) (forbids : S → Request → List ℕ → Type 0)
+-- of one that isn't let in; the status of one that the server doesn't run; and else that of the request that is run of it.
+pub data IsResponseTo {S : Type 0} (answers : S → RequestView → Response → S → Type 0) (refuses : S → Request → RequestView → ℕ → Type 0)
     (a : AdmissionView) (old : Holding S) (asked : Asked) (own : Response) (new : Holding S) : Type 0 where
-  no_head : ((r : Request) → ¬ IsHead asked.head r) → IsResponse 400 [] [] own → new ≡ old → IsResponseTo answers forbids a old asked own new
+  no_head : ((r : Request) → ¬ IsHead asked.head r) → IsResponse 400 [] [] own → new ≡ old → IsResponseTo answers refuses a old asked own new
   turned_away : (r : Request) (reason : Reason) (user : List ℕ) → IsHead asked.head r → IsTurnedAway a r reason user
-      → IsResponse (status_of reason) (refusal_fields reason) [] own → new ≡ old → IsResponseTo answers forbids a old asked own new
-  forbidden : (r : Request) (q : RequestView) → IsHead asked.head r → IsRequestOf a old.tokens r asked.body q → IsForbidden forbids old.state r q
-      → IsResponse 403 [] [] own → new ≡ old → IsResponseTo answers forbids a old asked own new
-  run : (r : Request) (q : RequestView) → IsHead asked.head r → IsRequestOf a old.tokens r asked.body q → ¬ IsForbidden forbids old.state r q
-      → IsRun answers old q own new → IsResponseTo answers forbids a old asked own new
+      → IsResponse (status_of reason) (refusal_fields reason) [] own → new ≡ old → IsResponseTo answers refuses a old asked own new
+  not_run : (r : Request) (q : RequestView) (status : ℕ) → IsHead asked.head r → IsRequestOf a old.tokens r asked.body q → refuses old.state r q status
+      → IsResponse status [] [] own → new ≡ old → IsResponseTo answers refuses a old asked own new
+  run : (r : Request) (q : RequestView) → IsHead asked.head r → IsRequestOf a old.tokens r asked.body q → ((status : ℕ) → ¬ refuses old.state r q status)
+      → IsRun answers old q own new → IsResponseTo answers refuses a old asked own new
 
 -- the response as it is sent: with the date of a moment (RFC 9110, section 6.6.1)
 pub record IsDated (moment : ℕ) (own sent : Response) : Type 0 where
@@ -64,10 +60,10 @@ pub record IsDated (moment : ℕ) (own sent : Response) : Type 0 where
   pub body : sent.body ≡ own.body
 
 -- A service answers a request: what it goes by stays as it was, and the run of its records goes on.
-pub record Serves {H J : Type 0} (answers : H → RequestView → Response → H → Type 0) (forbids : H → Request → List ℕ → Type 0) (is_clean : J → Type 0)
+pub record Serves {H J : Type 0} (answers : H → RequestView → Response → H → Type 0) (refuses : H → Request → RequestView → ℕ → Type 0) (is_clean : J → Type 0)
     (kept : J → List (List ℕ) → Type 0) (old : Service H J) (asked : Asked) (sent : Response) (new : Service H J) : Type 0 where
   pub own : Response
-  pub responds : IsResponseTo answers forbids (admission_of old) (held_of old) asked own (held_of new)
+  pub responds : IsResponseTo answers refuses (admission_of old) (held_of old) asked own (held_of new)
   pub dated : IsDated (admission_of old).moment own sent
   pub same : admission_of new ≡ admission_of old
   pub goes_on : GoesOn answers is_clean kept (kept_of old) (kept_of new)

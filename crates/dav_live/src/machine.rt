@@ -1,5 +1,5 @@
 //! What the requests of a live server are answered by: the machine, and a page where somebody asks for a folder.
-ghost use Rattle.std.specs.Prelude.{◌≡◌, ◌⊎◌, ◌↔◌, IfOk, IsFalse, IsTrue, OnOk, codes};
+ghost use Rattle.std.specs.Prelude.{◌≡◌, ◌⊎◌, ◌↔◌, ℕ, IfOk, IsFalse, IsTrue, List, OnOk, codes};
 ghost use Rattle.dav_http.specs.Saved.{IsSaveable, Loads, saved_bytes};
 ghost use Rattle.std.specs.Bool.{Decides};
 ghost use Rattle.http_server.specs.Response.{IsBlank};
@@ -7,16 +7,20 @@ ghost use Rattle.dav_http.specs.Leaves.{Leaves};
 ghost use Rattle.dav_http.specs.Steps.{IsStepFor};
 ghost use Rattle.dav_kept.specs.declared.handler.Effect.TheVariants.{Left};
 ghost use Rattle.dav_live.specs.SavedRuns.{loads_what_was_saved};
-ghost use Rattle.dav_live.specs.Answers.{AsksToSee, IsAnswer, IsSentFor, TellsHead, caller_of};
+ghost use Rattle.dav_server.specs.Head.{IsHead};
+ghost use Rattle.dav_live.specs.Answers.{AsksToSee, IsAnswer, IsSentFor, caller_of};
 
 use crate::ends::Ends;
 use crate::page;
 use bytes::Bytes;
 use dav_core::errors::NoMemory;
 use dav_engine::{Caller, Reply, ReplyBody};
-use dav_http::{HandleError as HttpError, Handler, Head, leaves, method_of, send, unlock_head};
+use dav_http::{
+    HandleError as HttpError, Handler, Head, leaves, method_of, present, send, unlock_head,
+};
 use dav_kept::{Effect, HandleError, Handles, Request};
 use dav_saved::LoadError;
+use http::StatusCode;
 use http_server::Response;
 use std::alloc::Global;
 use std::marker::Model;
@@ -64,7 +68,9 @@ fn is_unlock(method: &[u8]) -> bool
 
 impl Machine {
     ghost use Rattle.std.specs.Prelude.{◌≡◌, List, ℕ, Some, option_map};
+    ghost use Rattle.std.specs.Option.{option_copied};
     ghost use Rattle.std.specs.Bool.{Decides};
+    ghost use Rattle.dav_live.specs.Answers.{IsForeignUnlock};
     ghost use Rattle.std.specs.Str.{IsUtf8};
     ghost use Rattle.dav_http.specs.Holders.{NamesOwn};
 
@@ -80,6 +86,19 @@ impl Machine {
         match str::from_utf8(value) {
             Ok(text) => !self.handler.names_own(user, text),
             Err(_) => false,
+        }
+    }
+
+    // Whether a request with this head is an UNLOCK of a lock of another than this user.
+    fn is_foreign(&self, head: &Head<'_>, user: Option<&str>) -> bool
+        ensures { Decides result ((name : List ℕ) × (option_copied user.entry ≡ Some name)
+            × IsForeignUnlock self.now.state.locks head.now name) }
+    {
+        match user {
+            Some(user) => {
+                is_unlock(head.method()) && self.names_foreign(head.value("lock-token"), user)
+            }
+            None => false,
         }
     }
 
@@ -215,35 +234,35 @@ fn is_for_folder(head: &[u8], reply: &Reply) -> bool
     }
 }
 
-// What an answer with this status to a request with this head did to the state, and whether the request is a HEAD.
-fn reading_of(head: &[u8], status: u16) -> (Effect, bool)
-    ensures left { result.0 ≡ Left → Leaves head.now status }
-    ensures head { TellsHead head.now result.1 }
+// What an answer with this status to a request with this head did to the state.
+fn effect_of(head: &Head<'_>, status: u16) -> Effect
+    ensures { (bytes : List ℕ) → IsHead bytes head.now → result ≡ Left → Leaves bytes status }
 {
-    let Some(read) = Head::read(head) else {
-        return (Effect::Left, false);
-    };
-    let is_head = is_head(read.method());
-    if read.leaves(status) {
-        (Effect::Left, is_head)
+    if head.leaves(status) {
+        Effect::Left
     } else {
-        (Effect::Changed, is_head)
+        Effect::Changed
     }
 }
 
-// Fills the response to a request with this head with a reply.
+// Fills the response to a request with what its client is shown of a reply.
 fn answer_with(
     alloc: Global,
-    head: &[u8],
+    request: &Request<'_>,
     reply: Reply,
     response: &mut Response,
 ) -> Result<Effect, HandleError>
     requires { IsBlank response.old }
-    ensures { IfOk result (λ effect. IsSentFor head.now reply response.new
-        × (effect ≡ Left → Leaves head.now reply.status)) }
+    ensures { IfOk result (λ effect. IsSentFor request.now reply response.new
+        × (effect ≡ Left → Leaves request.now.head reply.status)) }
 {
-    let (effect, is_head) = reading_of(head, reply.status.as_u16());
-    send(alloc, reply, is_head, response)?;
+    let Some(head) = Head::read(request.head) else {
+        send(alloc, reply, false, response)?;
+        return Ok(Effect::Left);
+    };
+    let effect = effect_of(&head, reply.status.as_u16());
+    let body = request.body.as_slice();
+    present(alloc, &head, body, request.moment, reply, response)?;
     Ok(effect)
 }
 
@@ -257,12 +276,12 @@ impl Machine {
     ) -> Result<Effect, HandleError>
         requires { IsBlank response.old }
         ensures { OnOk result ((self.new ≡ self.old) × ((response.new.status ≡ 200)
-            ⊎ IsSentFor request.now.head reply response.new)) }
+            ⊎ IsSentFor request.now reply response.new)) }
     {
         if self.show(request, response)? {
             return Ok(Effect::Left);
         }
-        answer_with(self.alloc, request.head, reply, response)
+        answer_with(self.alloc, request, reply, response)
     }
 }
 
@@ -278,7 +297,7 @@ impl Handles for Machine {
         if is_for_folder(request.head, &reply) {
             self.answer_folder(request, reply, response)
         } else {
-            answer_with(self.alloc, request.head, reply, response)
+            answer_with(self.alloc, request, reply, response)
         }
     }
 
@@ -304,7 +323,7 @@ impl Handles for Machine {
 }
 
 impl Ends for Machine {
-    ghost use Rattle.dav_live.specs.Answers.{IsForeignUnlock, IsNextEnd};
+    ghost use Rattle.dav_live.specs.Answers.{IsNextEnd, IsNotRun};
 
     ghost ends = { λ server now head. IsNextEnd server.state.locks now head };
 
@@ -315,9 +334,21 @@ impl Ends for Machine {
         }
     }
 
-    ghost forbids = { λ server r user. IsForeignUnlock server.state.locks r user };
+    ghost refuses = { λ server came q status. IsNotRun server came q status };
 
-    fn forbids(&self, head: &Head<'_>, user: &str) -> bool {
-        is_unlock(head.method()) && self.names_foreign(head.value("lock-token"), user)
+    fn refusal(
+        &self,
+        head: &Head<'_>,
+        request: &Request<'_>,
+    ) -> Result<Option<StatusCode>, NoMemory> {
+        if self.is_foreign(head, request.principal) {
+            return Ok(Some(StatusCode::FORBIDDEN));
+        }
+        match Head::read(request.head) {
+            Some(kept) => self
+                .handler
+                .refusal(self.alloc, &kept, request.body.as_slice()),
+            None => Ok(None),
+        }
     }
 }

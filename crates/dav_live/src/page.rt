@@ -15,6 +15,26 @@ use std::str;
 pub const ASKED: &[u8] =
     b"<D:propfind xmlns:D='DAV:'><D:prop><D:resourcetype/><D:getcontentlength/><D:getlastmodified/></D:prop></D:propfind>";
 
+// What stands before the title of a page.
+const BEGIN: &str = "<!DOCTYPE html>\n<html lang=\"en\"><head><meta charset=\"utf-8\">\
+<meta name=\"viewport\" content=\"width=device-width, initial-scale=1\">\
+<meta name=\"color-scheme\" content=\"light dark\">\n<title>";
+
+// The style of a page. The policy in `add_fields` allows it by its SHA-256 (Content Security Policy Level 3).
+const STYLE: &str =
+    "body{font:1rem/1.5 system-ui,sans-serif;max-width:60rem;margin:0 auto;padding:1rem}\
+h1{font-size:1.3rem;overflow-wrap:anywhere}\
+table{width:100%;border-collapse:collapse}\
+th,td{padding:.3rem .5rem;text-align:left;vertical-align:top;border-bottom:1px solid #8884}\
+td:first-child{overflow-wrap:anywhere}\
+th+th,td+td{text-align:right}\
+td+td{white-space:nowrap}\
+@media(max-width:32rem){body{padding:.5rem}table{font-size:.8rem}th,td{padding:.3rem .25rem}}";
+
+// The heads of the columns of a page.
+const COLUMNS: &str =
+    "<table>\n<thead><tr><th>Name</th><th>Size</th><th>Changed (UTC)</th></tr></thead>\n<tbody>\n";
+
 /// The head of the request that asks for the folder and its members for which a request with this head asks.
 pub fn asking_head(alloc: Global, asked: &[u8]) -> Result<Vec<u8>, AllocError> {
     let target = match Head::read(asked) {
@@ -70,15 +90,19 @@ fn last_name(address: &str) -> &str {
     }
 }
 
+// Adds what an address, or a part of one, is shown by: what it escapes, where that is a text.
+fn add_decoded(alloc: Global, page: &mut String, address: &str) -> Result<(), AllocError> {
+    let mut bytes = Vec::new(alloc);
+    percent_decode(address.as_bytes()).append_to(&mut bytes)?;
+    match str::from_utf8(&bytes) {
+        Ok(text) => add_text(page, text),
+        Err(_) => add_text(page, address),
+    }
+}
+
 // Adds the name that an address is shown by.
 fn add_name(alloc: Global, page: &mut String, address: &str) -> Result<(), AllocError> {
-    let name = last_name(address);
-    let mut bytes = Vec::new(alloc);
-    percent_decode(name.as_bytes()).append_to(&mut bytes)?;
-    match str::from_utf8(&bytes) {
-        Ok(text) => add_text(page, text)?,
-        Err(_) => add_text(page, name)?,
-    }
+    add_decoded(alloc, page, last_name(address))?;
     if address.ends_with('/') {
         page.push('/')
     } else {
@@ -86,25 +110,101 @@ fn add_name(alloc: Global, page: &mut String, address: &str) -> Result<(), Alloc
     }
 }
 
-// Adds a cell with the text of a property.
-fn add_cell(
-    alloc: Global,
-    page: &mut String,
-    found: Option<&Element>,
-    name: &str,
-) -> Result<(), AllocError> {
-    page.push_str("<td>")?;
-    if let Some(prop) = found
-        && let Some(text) = text_in(alloc, prop, name)?
-    {
-        add_text(page, text.as_str())?;
+// A number of thousandths of a unit, to the nearest tenth below 10 units, else to the nearest unit.
+fn units_text(alloc: Global, thousandths: u64, unit: &str) -> Result<String, AllocError> {
+    if thousandths < 9_950 {
+        let tenths = thousandths.saturating_add(50) / 100;
+        let (whole, tenth) = (tenths / 10, tenths % 10);
+        return format!(in alloc; "{whole}.{tenth} {unit}");
     }
-    page.push_str("</td>")
+    let whole = thousandths.saturating_add(500) / 1_000;
+    format!(in alloc; "{whole} {unit}")
+}
+
+// A number of bytes, in the unit of which there are 1 to 999 (a kB is 1,000 bytes), or in GB.
+fn size_text(alloc: Global, bytes: u64) -> Result<String, AllocError> {
+    if bytes < 1_000 {
+        return format!(in alloc; "{bytes} B");
+    }
+    if bytes < 999_500 {
+        return units_text(alloc, bytes, "kB");
+    }
+    if bytes < 999_500_000 {
+        return units_text(alloc, bytes / 1_000, "MB");
+    }
+    units_text(alloc, bytes / 1_000_000, "GB")
+}
+
+/// What a size is shown by, of the text of a number of bytes: `9 B`, `1.0 kB`, `10 MB`. Another text stays.
+pub(crate) fn shown_size(alloc: Global, told: &str) -> Result<String, AllocError> {
+    match told.parse::<u64>() {
+        Ok(bytes) => size_text(alloc, bytes),
+        Err(_) => String::from_str(alloc, told),
+    }
+}
+
+// The number of a month by its name in a date (RFC 9110, section 5.6.7).
+fn month_number(name: &str) -> &'static str {
+    match name {
+        "Jan" => "01",
+        "Feb" => "02",
+        "Mar" => "03",
+        "Apr" => "04",
+        "May" => "05",
+        "Jun" => "06",
+        "Jul" => "07",
+        "Aug" => "08",
+        "Sep" => "09",
+        "Oct" => "10",
+        "Nov" => "11",
+        "Dec" => "12",
+        _ => "?",
+    }
+}
+
+/// What a date is shown by, of its text as HTTP writes it (RFC 9110, section 5.6.7): `Sun, 09 Sep 2001 01:46:40 GMT` is
+/// `2001-09-09 01:46`. A text of another length stays.
+pub(crate) fn shown_date(alloc: Global, told: &str) -> Result<String, AllocError> {
+    if told.len() != 29 {
+        return String::from_str(alloc, told);
+    }
+    let day = told.get(5..7).unwrap_or("?");
+    let month = month_number(told.get(8..11).unwrap_or("?"));
+    let year = told.get(12..16).unwrap_or("?");
+    let minute = told.get(17..22).unwrap_or("?");
+    format!(in alloc; "{year}-{month}-{day} {minute}")
 }
 
 // The properties that a response tells.
 fn told_in(response: &Element) -> Option<&Element> {
     child(child(response, "propstat")?, "prop")
+}
+
+// The text of a property that a response tells; empty where it tells none.
+fn told_text(alloc: Global, response: &Element, name: &str) -> Result<String, AllocError> {
+    let told = match told_in(response) {
+        Some(prop) => text_in(alloc, prop, name)?,
+        None => None,
+    };
+    Ok(told.unwrap_or(String::new(alloc)))
+}
+
+// Adds the cell with the size of a file.
+fn add_size(alloc: Global, page: &mut String, response: &Element) -> Result<(), AllocError> {
+    let told = told_text(alloc, response, "getcontentlength")?;
+    let size = shown_size(alloc, told.as_str())?;
+    page.push_str("<td>")?;
+    add_text(page, size.as_str())?;
+    page.push_str("</td>")
+}
+
+// Adds the cell with the time of the last change.
+fn add_date(alloc: Global, page: &mut String, response: &Element) -> Result<(), AllocError> {
+    let told = told_text(alloc, response, "getlastmodified")?;
+    let date = shown_date(alloc, told.as_str())?;
+    page.push_str("<td>")?;
+    add_text(page, date.as_str())?;
+    page.push_str("</td>")
 }
 
 // Whether a response tells of a folder.
@@ -118,6 +218,15 @@ fn is_folder(response: &Element) -> bool {
     }
 }
 
+// Adds the link to a member.
+fn add_link(alloc: Global, page: &mut String, address: &str) -> Result<(), AllocError> {
+    page.push_str("<a href=\"")?;
+    add_text(page, address)?;
+    page.push_str("\">")?;
+    add_name(alloc, page, address)?;
+    page.push_str("</a>")
+}
+
 // Adds the row of a member.
 fn add_row(
     alloc: Global,
@@ -125,18 +234,15 @@ fn add_row(
     address: &str,
     response: &Element,
 ) -> Result<(), AllocError> {
-    page.push_str("<tr><td><a href=\"")?;
-    add_text(page, address)?;
-    page.push_str("\">")?;
-    add_name(alloc, page, address)?;
-    page.push_str("</a></td>")?;
-    let prop = told_in(response);
+    page.push_str("<tr><td>")?;
+    add_link(alloc, page, address)?;
+    page.push_str("</td>")?;
     if is_folder(response) {
         page.push_str("<td></td>")?;
     } else {
-        add_cell(alloc, page, prop, "getcontentlength")?;
+        add_size(alloc, page, response)?;
     }
-    add_cell(alloc, page, prop, "getlastmodified")?;
+    add_date(alloc, page, response)?;
     page.push_str("</tr>\n")
 }
 
@@ -149,13 +255,21 @@ fn address_above(address: &str) -> &str {
     }
 }
 
+// Adds the head of the page of a folder, and its heading.
+fn add_heading(alloc: Global, page: &mut String, address: &str) -> Result<(), AllocError> {
+    page.push_str(BEGIN)?;
+    add_decoded(alloc, page, address)?;
+    page.push_str("</title>\n<style>")?;
+    page.push_str(STYLE)?;
+    page.push_str("</style></head>\n<body><h1>")?;
+    add_decoded(alloc, page, address)?;
+    page.push_str("</h1>\n")
+}
+
 // Adds the begin of the page of a folder, with the way up.
 fn add_top(alloc: Global, page: &mut String, address: &str) -> Result<(), AllocError> {
-    page.push_str("<!DOCTYPE html>\n<html><head><meta charset=\"utf-8\"><title>")?;
-    add_name(alloc, page, address)?;
-    page.push_str("</title></head>\n<body><h1>")?;
-    add_name(alloc, page, address)?;
-    page.push_str("</h1>\n<table>\n<tr><th>Name</th><th>Bytes</th><th>Changed</th></tr>\n")?;
+    add_heading(alloc, page, address)?;
+    page.push_str(COLUMNS)?;
     if last_name(address).is_empty() {
         return Ok(());
     }
@@ -164,32 +278,48 @@ fn add_top(alloc: Global, page: &mut String, address: &str) -> Result<(), AllocE
     page.push_str("\">..</a></td><td></td><td></td></tr>\n")
 }
 
-// Adds what one response tells: the first is of the folder itself.
-fn add_response(
+// Adds what a response tells of a member.
+fn add_member(alloc: Global, page: &mut String, response: &Element) -> Result<(), AllocError> {
+    match text_in(alloc, response, "href")? {
+        Some(address) => add_row(alloc, page, address.as_str(), response),
+        None => Ok(()),
+    }
+}
+
+// Adds the members that are folders, or those that aren't: the first response is of the folder itself.
+fn add_members(
     alloc: Global,
     page: &mut String,
-    response: &Element,
-    is_first: bool,
+    told: &Element,
+    folders: bool,
 ) -> Result<(), AllocError> {
-    let Some(address) = text_in(alloc, response, "href")? else {
-        return Ok(());
-    };
-    if is_first {
-        add_top(alloc, page, address.as_str())
-    } else {
-        add_row(alloc, page, address.as_str(), response)
+    let mut is_first = true;
+    for response in told.child_elems() {
+        if !is_first && is_folder(response) == folders {
+            add_member(alloc, page, response)?;
+        }
+        is_first = false;
     }
+    Ok(())
+}
+
+// The address of the folder itself, which the first response has.
+fn own_address(alloc: Global, told: &Element) -> Result<String, AllocError> {
+    let found = match child(told, "response") {
+        Some(response) => text_in(alloc, response, "href")?,
+        None => None,
+    };
+    Ok(found.unwrap_or(String::new(alloc)))
 }
 
 // The page of a folder, of what a PROPFIND of it told.
 fn page_of(alloc: Global, told: &Element) -> Result<String, AllocError> {
+    let address = own_address(alloc, told)?;
     let mut page = String::new(alloc);
-    let mut is_first = true;
-    for response in told.child_elems() {
-        add_response(alloc, &mut page, response, is_first)?;
-        is_first = false;
-    }
-    page.push_str("</table></body></html>\n")?;
+    add_top(alloc, &mut page, address.as_str())?;
+    add_members(alloc, &mut page, told, true)?;
+    add_members(alloc, &mut page, told, false)?;
+    page.push_str("</tbody></table></body></html>\n")?;
     Ok(page)
 }
 
@@ -211,7 +341,9 @@ fn add_fields(
     }
     response.add_header(
         CONTENT_SECURITY_POLICY,
-        HeaderValue::from_static("default-src 'none'"),
+        HeaderValue::from_static(
+            "default-src 'none'; style-src 'sha256-d5PW6GXzLIK4jRAh3gRta4XvK+d8n6gvQt610H/P8LU='",
+        ),
     )
 }
 

@@ -315,6 +315,13 @@ fn answer<F: DavFileSystem, L: DavLockSystem>(
 }
 
 impl<F: DavFileSystem, L: DavLockSystem> DavHandler<F, L> {
+    /// The prefix below which it answers. Allocates nothing.
+    pub fn prefix(&self) -> &str
+        ensures { result.now ≡ self.now.server.settings.prefix }
+    {
+        self.prefix.as_str()
+    }
+
     /// The store. Allocates nothing.
     pub fn fs(&self) -> &F
         ensures fs { result.now ≡ self.now.fs }

@@ -8,6 +8,7 @@ ghost use Rattle.dav_core.specs.Handle.{place_for};
 ghost use Rattle.dav_core.specs.Property.{patched, patch_of, without_xml, patched_property};
 
 mod filesystem;
+mod found;
 mod loaded;
 mod passing;
 mod saved;

@@ -25,3 +25,4 @@ pub use front::is_legal;
 pub use namespaces::read;
 pub use prefixed::with_prefix;
 pub use writing::write;
+pub use written::known;

@@ -29,7 +29,8 @@ fn declared_prefix(name: &str) -> Option<&[u8]>
     after_text(name.as_bytes(), b"xmlns:")
 }
 
-// The namespace of a prefix that stands in a tree without one.
+/// The namespace of a prefix that stands in a tree without one, as `write` declares it: `D` is `DAV:` (RFC 4918, section 14), `A`,
+/// `Z`, `nc` and `oc` are those of Apache, Microsoft, Nextcloud and ownCloud, and any other is `urn:unknown`.
 pub fn known(prefix: &str) -> &'static str
     ensures { result.now ≡ spec.known prefix.now }
 {

@@ -130,7 +130,7 @@ fn writes_what_no_text_is_read_as(rt: HostRuntime) -> Result<(), Fail> {
 }
 
 #[test]
-fn compares_tags_strongly(rt: HostRuntime) -> Result<(), Fail> {
+fn compares_tags(rt: HostRuntime) -> Result<(), Fail> {
     let weak = ETag::from_str(rt.alloc(), "W/\"12345\"")?;
     let strong = ETag::from_str(rt.alloc(), "\"12345\"")?;
     let other = ETag::from_str(rt.alloc(), "\"12346\"")?;
@@ -147,5 +147,11 @@ fn compares_tags_strongly(rt: HostRuntime) -> Result<(), Fail> {
         copy.strong_eq(&strong),
     ];
     same(&rt, &of_strong, &[false, true, true]);
+    let weakly = [
+        weak.weak_eq(&weak),
+        weak.weak_eq(&strong),
+        strong.weak_eq(&other),
+    ];
+    same(&rt, &weakly, &[true, true, false]);
     Ok(())
 }

@@ -3,6 +3,7 @@ ghost use Rattle.std.specs.Prelude.{◌≡◌, ◌≤◌, OnOk};
 ghost use Rattle.std.specs.Option.{option_copied};
 ghost use Rattle.dav_core.specs.World.{last_moment};
 ghost use Rattle.dav_kept.specs.Records.{IsRecord};
+ghost use Rattle.dav_live.specs.Admission.{AdmissionView, request_in};
 ghost use Rattle.dav_live.specs.Serving.{IsDated};
 
 use crate::admission::{Admitted, Decision, refuse};
@@ -21,19 +22,18 @@ use httpdate::HttpDate;
 use std::alloc::Global;
 
 impl<H: Ends + Drop, J: Keeps + Drop> Service<H, J> {
-    ghost use Rattle.std.specs.Prelude.{◌≡◌, ◌⊎◌, ℕ, List, [], Some, OnOk, option_map, string_bytes};
-    ghost use Rattle.std.specs.Bool.{Decides};
+    ghost use Rattle.std.specs.Prelude.{◌≡◌, ◌⊎◌, ℕ, List, [], OnOk, option_map, string_bytes};
     ghost use Rattle.http_server.specs.Response.{IsBlank, IsResponse};
     ghost use Rattle.dav_server.specs.Head.{IsHead};
     ghost use Rattle.dav_live.specs.Numbered.{HasNumber};
     ghost use Rattle.dav_live.specs.Admission.{request_in};
     ghost use Rattle.dav_live.specs.Runs.{GoesOn};
-    ghost use Rattle.dav_live.specs.Serving.{IsForbidden, IsResponseTo, IsRun, StaysAll, admission_of, held_of, kept_of};
+    ghost use Rattle.dav_live.specs.Serving.{IsResponseTo, IsRun, StaysAll, admission_of, held_of, kept_of};
 
     // Answers a request. 400 where the bytes of its head are none (RFC 9110, section 15.5.1).
     fn respond(&mut self, asked: &Asked, response: &mut Response) -> Result<(), Stop>
         requires { IsBlank response.old }
-        ensures responds { OnOk result (IsResponseTo H.answers H.forbids (admission_of self.old)
+        ensures responds { OnOk result (IsResponseTo H.answers H.refuses (admission_of self.old)
             (held_of self.old) asked.now response.new (held_of self.new)) }
         ensures same { OnOk result (admission_of self.new ≡ admission_of self.old) }
         ensures goes_on { OnOk result
@@ -57,7 +57,7 @@ impl<H: Ends + Drop, J: Keeps + Drop> Service<H, J> {
     ) -> Result<(), Stop>
         requires head { IsHead asked.now.head head.now }
         requires blank { IsBlank response.old }
-        ensures responds { OnOk result (IsResponseTo H.answers H.forbids (admission_of self.old)
+        ensures responds { OnOk result (IsResponseTo H.answers H.refuses (admission_of self.old)
             (held_of self.old) asked.now response.new (held_of self.new)) }
         ensures same { OnOk result (admission_of self.new ≡ admission_of self.old) }
         ensures goes_on { OnOk result
@@ -76,7 +76,7 @@ impl<H: Ends + Drop, J: Keeps + Drop> Service<H, J> {
         }
     }
 
-    // Runs a request that was admitted; 403 where its user may not make it (RFC 9110, section 15.5.4).
+    // Runs a request that was admitted, where the server doesn't refuse it.
     fn run_if_allowed(
         &mut self,
         admitted: &Admitted,
@@ -88,11 +88,11 @@ impl<H: Ends + Drop, J: Keeps + Drop> Service<H, J> {
         requires number { HasNumber (held_of self.old).tokens
             (option_map string_bytes admitted.now.token) }
         ensures ran { OnOk result
-            ((IsForbidden H.forbids (held_of self.old).state head.now
-            (request_in (admission_of self.old) admitted.now body.now)
-            × IsResponse 403 [] [] response.new × (held_of self.new ≡ held_of self.old))
-            ⊎ ((¬ IsForbidden H.forbids (held_of self.old).state head.now
-            (request_in (admission_of self.old) admitted.now body.now))
+            (((status : ℕ) × H.refuses (held_of self.old).state head.now
+            (request_in (admission_of self.old) admitted.now body.now) status
+            × IsResponse status [] [] response.new × (held_of self.new ≡ held_of self.old))
+            ⊎ (((status : ℕ) → ¬ H.refuses (held_of self.old).state head.now
+            (request_in (admission_of self.old) admitted.now body.now) status)
             × IsRun H.answers (held_of self.old)
             (request_in (admission_of self.old) admitted.now body.now) response.new
             (held_of self.new))) }
@@ -100,22 +100,13 @@ impl<H: Ends + Drop, J: Keeps + Drop> Service<H, J> {
         ensures goes_on { OnOk result
             (GoesOn H.answers J.is_clean J.kept (kept_of self.old) (kept_of self.new)) }
     {
-        if self.is_forbidden(admitted, head) {
-            response.status = StatusCode::FORBIDDEN;
-            return Ok(());
-        }
-        self.run(admitted, body, response)
-    }
-
-    // Whether the user of a request that was admitted may not make it.
-    fn is_forbidden(&self, admitted: &Admitted, head: &Head<'_>) -> bool
-        ensures { Decides result ((user : List ℕ)
-            × (option_map string_bytes admitted.now.principal ≡ Some user)
-            × H.forbids (held_of self.now).state head.now user) }
-    {
-        match admitted.principal.as_deref() {
-            Some(user) => self.kept.handler().forbids(head, user),
-            None => false,
+        let request = request_in(self.admission.moment(), admitted, body);
+        match self.kept.handler().refusal(head, &request)? {
+            Some(status) => {
+                response.status = status;
+                Ok(())
+            }
+            None => self.run(admitted.only_reads, &request, response),
         }
     }
 
@@ -130,34 +121,25 @@ impl<H: Ends + Drop, J: Keeps + Drop> Service<H, J> {
         Ok(self.told.note(self.admission.moment(), user, head, reply)?)
     }
 
-    // Runs a request that was admitted.
+    // Runs a request that the server doesn't refuse.
     fn run(
         &mut self,
-        admitted: &Admitted,
-        body: &Bytes,
+        only_reads: bool,
+        request: &Request<'_>,
         response: &mut Response,
     ) -> Result<(), Stop>
         requires blank { IsBlank response.old }
-        requires number { HasNumber (held_of self.old).tokens
-            (option_map string_bytes admitted.now.token) }
-        ensures run { OnOk result (IsRun H.answers (held_of self.old)
-            (request_in (admission_of self.old) admitted.now body.now) response.new
+        requires number { HasNumber (held_of self.old).tokens request.now.token }
+        ensures run { OnOk result (IsRun H.answers (held_of self.old) request.now response.new
             (held_of self.new)) }
         ensures same { OnOk result (admission_of self.new ≡ admission_of self.old) }
         ensures goes_on { OnOk result
             (GoesOn H.answers J.is_clean J.kept (kept_of self.old) (kept_of self.new)) }
     {
-        let request = request_of(
-            self.admission.moment(),
-            admitted.principal.as_deref(),
-            admitted.token.as_deref(),
-            &admitted.head,
-            body,
-        );
-        if admitted.only_reads {
-            self.look(&request, response)
+        if only_reads {
+            self.look(request, response)
         } else {
-            self.change(&request, response)
+            self.change(request, response)
         }
     }
 
@@ -222,6 +204,20 @@ impl<H: Ends + Drop, J: Keeps + Drop> Service<H, J> {
     }
 }
 
+// The request that is run of one that was admitted.
+fn request_in<'r>(moment: u64, admitted: &'r Admitted, body: &'r Bytes) -> Request<'r>
+    ensures { (a : AdmissionView) → a.moment ≡ moment
+        → result ≡ request_in a admitted.now body.now }
+{
+    request_of(
+        moment,
+        admitted.principal.as_deref(),
+        admitted.token.as_deref(),
+        &admitted.head,
+        body,
+    )
+}
+
 // A text, if there is one. A text that a function gives is known to be UTF-8, as a request wants it.
 fn text_if_any(text: Option<&str>) -> Option<&str>
     ensures { option_copied result ≡ option_copied text.entry }
@@ -284,7 +280,7 @@ impl<H: Ends + Drop, J: Keeps + Drop> Answerer for Service<H, J> {
 
     ghost judges = { λ old head verdict new. StaysAll old new };
 
-    ghost answers = { λ old asked response new. Serves H.answers H.forbids J.is_clean J.kept old asked response new };
+    ghost answers = { λ old asked response new. Serves H.answers H.refuses J.is_clean J.kept old asked response new };
 
     fn judge(&mut self, head: &[u8]) -> Result<Option<Rejection>, Stop> {
         if is_plain_read(head) {

@@ -5,7 +5,7 @@ use Rattle.dav_core.specs.Locks.{Lock}
 use Rattle.dav_server.specs.Server.{HandlerView}
 use Rattle.dav_store.specs.Store.{Store}
 use Rattle.dav_http.specs.Leaves.{Leaves}
-use Rattle.dav_http.specs.Sent.{IsReadByClient}
+use Rattle.dav_http.specs.Sent.{HoldsSendable}
 use Rattle.dav_http.proofs.LeavesSteps.{left_as_it_was}
 use Rattle.dav_http.proofs.SentSteps.{server_answers, server_stops}
 use Rattle.dav_http.proofs.handler.Handler.answer.Goals.{in-Ok+else-was_short-2, in-Err}
@@ -20,11 +20,11 @@ invariant_of-self-2 c = elim c.match-handle.branch [
   | in-Err w ↦ server_stops _ _ _ _ c.self.invariant c.requires.moment c.requires.sendable w.in-Err.ensures.err.cut
 ]
 
-pub returns-clause-read : goal.returns-clause-read
-returns-clause-read c = elim c.match-handle.branch [
+pub returns-clause-told : goal.returns-clause-told
+returns-clause-told c = elim c.match-handle.branch [
   | in-Ok+else-was_short-2 w ↦
-      subst (λ r. IfOk r (λ reply. IsReadByClient reply.body)) (sym w.result-is) (server_answers _ _ _ _ _ c.self.invariant c.requires.moment c.requires.sendable w.in-Ok.ensures.ok).0
-  | in-Err w ↦ subst (λ r. IfOk r (λ reply. IsReadByClient reply.body)) (sym w.result-is) tt
+      subst (λ r. IfOk r (λ reply. HoldsSendable reply.body)) (sym w.result-is) (server_answers _ _ _ _ _ c.self.invariant c.requires.moment c.requires.sendable w.in-Ok.ensures.ok).0
+  | in-Err w ↦ subst (λ r. IfOk r (λ reply. HoldsSendable reply.body)) (sym w.result-is) tt
 ]
 
 pub returns-clause-left : goal.returns-clause-left

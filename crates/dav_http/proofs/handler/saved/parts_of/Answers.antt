@@ -1,12 +1,11 @@
-use Rattle.std.proofs.Common.{◌≡◌, ◌++◌, ◌==◌, ℕ, List, [], length, Some, Bool, true, false, sym, ap, ◌∙◌}
+use Rattle.std.proofs.Common.{◌≡◌, ◌==◌, ℕ, List, [], length, Some, true, false, sym, ap, ◌∙◌}
 use Rattle.std.proofs.lemmas.Bool.{eqb-true}
 use Rattle.std.proofs.lemmas.List.{append-nil, nil_from_length}
 use Rattle.std.proofs.lemmas.Result.{err_from_is_err_and}
 use Rattle.dav_core.specs.Locks.{Lock}
 use Rattle.dav_core.specs.World.{World}
-use Rattle.dav_saved.specs.Locks.{locks, locks_at}
+use Rattle.dav_saved.specs.Locks.{locks}
 use Rattle.dav_saved.proofs.Fields.{some_is}
-use Rattle.dav_http.specs.Saved.{most_levels}
 use Rattle.dav_http.proofs.SavedCalls.{fails_memory}
 use Rattle.dav_http.proofs.handler.saved.parts_of.Goals as goal
 

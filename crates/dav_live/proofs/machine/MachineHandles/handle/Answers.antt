@@ -1,7 +1,7 @@
 use Rattle.std.proofs.Common.{ap, refl, ◌∙◌}
 use Rattle.std.proofs.lemmas.Result.{IfOk-weaker}
 use Rattle.dav_kept.specs.Records.{RequestView}
-use Rattle.dav_live.proofs.MachineLemmas.{folder_answered, folder_leaves, reply_answered, reply_leaves}
+use Rattle.dav_live.proofs.MachineLemmas.{folder_answered, folder_leaves, reply_answered}
 use Rattle.dav_live.proofs.machine.MachineHandles.handle.Goals as goal
 
 pub returns-then-is_for_folder-clause-answers : goal.returns-then-is_for_folder-clause-answers
@@ -30,9 +30,4 @@ returns-else-is_for_folder-clause-answers c =
     c.answer_with.ensures
 
 pub returns-else-is_for_folder-clause-left : goal.returns-else-is_for_folder-clause-left
-returns-else-is_for_folder-clause-left c =
-    IfOk-weaker c.answer_with.result _ _
-    (λ effect done is_left.
-    reply_leaves c.args.self.now c.reply_to.new.self c.args.request.now c.request.inside.head.now (ap (λ (q : RequestView). q.head) c.request.view_is) c.in_ok-reply.reply
-    c.answer_with.new.response c.in_ok-reply.ensures.step c.in_ok-reply.ensures.left (done.1 is_left))
-    c.answer_with.ensures
+returns-else-is_for_folder-clause-left c = IfOk-weaker c.answer_with.result _ _ (λ effect done is_left. c.in_ok-reply.ensures.left (done.1 is_left)) c.answer_with.ensures

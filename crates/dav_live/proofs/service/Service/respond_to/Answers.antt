@@ -5,7 +5,7 @@ use Rattle.dav_live.specs.Admission.{IsDecision, IsRequestOf, request_in}
 use Rattle.dav_live.specs.Numbered.{HasNumber}
 use Rattle.dav_live.specs.Serving.{held_of, kept_of, turned_away}
 use Rattle.dav_live.proofs.RunLemmas.{goes_on_same}
-use Rattle.dav_live.proofs.ServingLemmas.{holds_on, number_of, ran_or_forbidden}
+use Rattle.dav_live.proofs.ServingLemmas.{holds_on, number_of, ran_or_not}
 use Rattle.dav_live.proofs.service.Service.respond_to.Goals as goal
 
 pub run_if_allowed-requires-clause-number : goal.run_if_allowed-requires-clause-number
@@ -35,5 +35,5 @@ returns-in_ok-run_if_allowed-in-Run-clause-responds g c =
     let d = subst (IsDecision a c.tokens-tokens.result c.args.head.now body) c.in-Run.is c.in_ok-refused.ensures.decision in
     let request = subst (λ (n : ℕ). IsRequestOf a n c.args.head.now body (request_in a admitted body)) c.tokens-tokens.ensures d.0 in
     holds_on c.note-in-Run.result
-    (ran_or_forbidden g.H.Handles.answers g.H.Ends.forbids a _ (held_of c.args.self.now) (held_of c.run_if_allowed.new.self) (held_of c.note-in-Run.new.self) c.args.asked.now c.args.head.now admitted c.run_if_allowed.new.response
+    (ran_or_not g.H.Handles.answers g.H.Ends.refuses a _ (held_of c.args.self.now) (held_of c.run_if_allowed.new.self) (held_of c.note-in-Run.new.self) c.args.asked.now c.args.head.now admitted c.run_if_allowed.new.response
     c.requires.head request c.in_ok-refused.ensures.same (ap (λ (k : Kept g.row.H.Denot g.row.J.Denot). held_by k) c.note-in-Run.ensures.1) c.in_ok-run_if_allowed-in-Run.ensures.ran)

@@ -1,15 +1,32 @@
-use Rattle.std.proofs.Common.{inl, inr, refl}
-use Rattle.dav_live.specs.Serving.{kept_of}
+use Rattle.std.proofs.Common.{inl, refl, subst, sym}
+use Rattle.dav_kept.specs.Records.{RequestView}
+use Rattle.dav_live.specs.Admission.{request_in}
+use Rattle.dav_live.specs.Numbered.{HasNumber}
+use Rattle.dav_live.specs.Serving.{admission_of, held_of, kept_of}
 use Rattle.dav_live.proofs.RunLemmas.{goes_on_same}
-use Rattle.dav_live.proofs.ServingLemmas.{forbidden_or_not, on_ok}
+use Rattle.dav_live.proofs.ServingLemmas.{not_refused, refused_by}
 use Rattle.dav_live.proofs.service.Service.run_if_allowed.Goals as goal
 
-pub returns-then-is_forbidden-clause-ran : goal.returns-then-is_forbidden-clause-ran
-returns-then-is_forbidden-clause-ran g c =
-    inl (c.is_forbidden.ensures.0 c.if-is_forbidden.true, record { status = refl; headers = c.requires.blank.headers; body = c.requires.blank.body }, refl)
+pub returns-in-Some-clause-goes_on : goal.returns-in-Some-clause-goes_on
+returns-in-Some-clause-goes_on g c = goes_on_same g.H.Handles.answers g.J.Keeps.is_clean g.J.Keeps.kept (kept_of c.args.self.now) c.args.self.now.kept refl
 
-pub returns-then-is_forbidden-clause-goes_on : goal.returns-then-is_forbidden-clause-goes_on
-returns-then-is_forbidden-clause-goes_on g c = goes_on_same g.H.Handles.answers g.J.Keeps.is_clean g.J.Keeps.kept (kept_of c.args.self.now) c.args.self.now.kept refl
+pub returns-in-None-clause-ran : goal.returns-in-None-clause-ran
+returns-in-None-clause-ran g c =
+    not_refused g.H.Handles.answers g.H.Ends.refuses _ c.handler.result.now (held_of c.args.self.now) (held_of c.run.new.self) c.args.head.now c.request_in-request.result
+    (request_in (admission_of c.args.self.now) c.args.admitted.now c.args.body.now) c.run.new.response c.in_ok-status.field-0 c.run.result c.handler.ensures
+    (c.request_in-request.ensures (admission_of c.args.self.now) (sym c.moment.ensures.is)) c.in-None.is c.in_ok-status.ensures c.run.ensures.run
 
-pub returns-clause-ran : goal.returns-clause-ran
-returns-clause-ran g c = on_ok c.run.result (λ ran. inr (forbidden_or_not c.is_forbidden.result c.is_forbidden.ensures c.if-is_forbidden.false ran)) c.run.ensures.run
+pub run-requires-clause-number : goal.run-requires-clause-number
+run-requires-clause-number g c =
+    subst (λ (v : RequestView). HasNumber c.args.self.now.kept.tokens v.token) (sym (c.request_in-request.ensures (admission_of c.args.self.now) (sym c.moment.ensures.is))) c.requires.number
+
+pub returns-in-Some-clause-ran : goal.returns-in-Some-clause-ran
+returns-in-Some-clause-ran g c =
+    inl (
+      c.in-Some.status,
+      refused_by g.H.Ends.refuses c.handler.result.now c.args.self.now.kept.handler c.args.head.now c.request_in-request.result
+          (request_in (admission_of c.args.self.now) c.args.admitted.now c.args.body.now) c.in_ok-status.field-0 c.in-Some.status c.handler.ensures
+          (c.request_in-request.ensures (admission_of c.args.self.now) (sym c.moment.ensures.is)) c.in-Some.is c.in_ok-status.ensures,
+      record { status = refl; headers = c.requires.blank.headers; body = c.requires.blank.body },
+      refl,
+    )

@@ -1,0 +1,10 @@
+pub mod PartLemmas
+pub mod FieldLemmas
+pub mod TreeLemmas
+pub mod MissingLemmas
+pub mod DotLemmas
+pub mod TypeLemmas
+pub mod TypedLemmas
+pub mod SentNames
+pub mod SentTypes
+pub mod SentLemmas

@@ -1,0 +1,29 @@
+-- How trees are built, one child after another, and with other children.
+use Rattle.std.proofs.Common.{◌≡◌, ℕ, List, [], ◌∷◌, ◌++◌, map, codes, Option, Some, None, refl, ap, sym, subst, ◌∙◌}
+use Rattle.dav_core.specs.Element.{ElementTree, element, text, tree_list, trees, name_of, children_of, with_child, with_children}
+use Rattle.dav_presented.specs.Missing.{dav_element}
+
+list_of_trees : (ts : List ElementTree) → tree_list (trees ts) ≡ ts
+list_of_trees [] = refl
+list_of_trees (t ∷ ts) = ap (λ us. t ∷ us) (list_of_trees ts)
+
+-- a child more in an element, whatever its name is
+pub child_more : (e : ElementTree) (ts : List ElementTree) (t : ElementTree) {old new : ElementTree} → old ≡ with_children e ts → new ≡ with_child old t → new ≡ with_children e (ts ++ t ∷ [])
+child_more (element name prefix namespace attributes children) ts t so_far added =
+    added ∙ ap (λ o. with_child o t) so_far ∙ ap (λ us. element name prefix namespace attributes (trees (us ++ t ∷ []))) (list_of_trees ts)
+child_more (text bytes) ts t so_far added = added ∙ ap (λ o. with_child o t) so_far
+
+-- an element whose children are changed each by itself
+pub rebuilt : (f : ElementTree → ElementTree) (name : List ℕ) (prefix namespace : Option (List ℕ)) (attributes : List (List ℕ × List ℕ)) (olds news : List ElementTree) (told : ElementTree)
+    → element name prefix namespace attributes (trees olds) ≡ told → news ≡ map f olds → element name prefix namespace attributes (trees news) ≡ with_children told (map f (children_of told))
+rebuilt f name prefix namespace attributes olds news told e h =
+    subst (λ t. element name prefix namespace attributes (trees news) ≡ with_children t (map f (children_of t))) e
+    (ap (λ ts. element name prefix namespace attributes (trees ts)) (h ∙ ap (map f) (sym (list_of_trees olds))))
+
+-- an element whose name and children are kept
+pub renamed : (name : List ℕ) (prefix namespace : Option (List ℕ)) (attributes : List (List ℕ × List ℕ)) (olds : List ElementTree) (told : ElementTree) (own : List ℕ) (others : List (List ℕ × List ℕ))
+    → element name prefix namespace attributes (trees olds) ≡ told → own ≡ codes "D" → others ≡ []
+    → element name (Some own) None others (trees olds) ≡ dav_element (name_of told) (children_of told)
+renamed name prefix namespace attributes olds told own others e d none =
+    ap (λ p. element name (Some p) None others (trees olds)) d ∙ ap (λ others. element name (Some (codes "D")) None others (trees olds)) none
+    ∙ subst (λ t. dav_element name olds ≡ dav_element (name_of t) (children_of t)) e (ap (dav_element name) (sym (list_of_trees olds)))

@@ -1,0 +1,11 @@
+pub mod Range
+pub mod Verdict
+pub mod Parts
+pub mod Fields
+pub mod Names
+pub mod Missing
+pub mod Told
+pub mod Types
+pub mod Usual
+pub mod Typed
+pub mod Sent

@@ -1,0 +1,19 @@
+//! Laws of the definitions. A function here does nothing: its contract is a theorem.
+ghost use Rattle.dav_presented.specs.Parts.{PartsJoin, PartsAreWhole};
+ghost use Rattle.dav_presented.specs.Sent.{ShownMayBeSent};
+
+/// A part and the one that begins after its last byte are the part of both, so a download that is
+/// taken up again is right; and the part from the first byte to the last one is the whole (RFC 9110,
+/// section 14.1.2).
+pub fn parts_join()
+    ensures joined { PartsJoin }
+    ensures whole { PartsAreWhole }
+{}
+
+/// What is shown of a multistatus that may be sent may be sent: with types and usual names, and with
+/// the names that are missing, where the body of the request is as reading gives it (RFC 4918, section
+/// 14.16; Namespaces in XML 1.0, sections 3 to 6). So a client reads it again (`sendable_is_read` of
+/// `dav_xml`).
+pub fn shown_may_be_sent()
+    ensures { ShownMayBeSent }
+{}

@@ -1,0 +1,17 @@
+//! What a client is shown of the machine's replies: parts of files (RFC 9110, section 14), conditions
+//! by date and weak tag (section 13), the properties that a resource doesn't have (RFC 4918, section
+//! 9.1), media types by the names of files (RFC 9110, section 8.3), and the names of properties that
+//! clients know (RFC 4918, section 14.18).
+//!
+//! Each function takes what the machine answered, and gives what is sent in its place.
+#![tactic(auto)]
+
+pub mod fields;
+pub mod laws;
+pub mod missing;
+pub mod names;
+pub mod parts;
+#[cfg(test)]
+mod tests;
+pub mod typed;
+pub mod types;

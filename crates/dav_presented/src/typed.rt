@@ -1,0 +1,6 @@
+//! The properties in a multistatus: the types of files by their names (RFC 4918, section 15.5), and
+//! usual names (section 14.18).
+mod changed;
+mod usual;
+
+pub use changed::with_types;
