@@ -99,9 +99,9 @@ pub not_refused : {S E : Type 0} (answers : S → RequestView → Response → S
     (came : Request) (q r : RequestView) (own : Response) (status : Option ℕ) (result : Result (Unit {0}) E) → state ≡ old.state → q ≡ r → status ≡ None
     → Tells (refuses state came q) status → OnOk result (IsRun answers old q own new)
     → OnOk result (P ⊎ (((n : ℕ) → ¬ refuses old.state came r n) × IsRun answers old r own new))
-not_refused {S} answers refuses P state old new came q r own status result at same none tells ran =
+not_refused {S} answers refuses P state old new came q r own status result at same nothing tells ran =
     let never : Tells (refuses old.state came r) None =
-    subst (λ (s : S). Tells (refuses s came r) None) at (subst (λ (v : RequestView). Tells (refuses state came v) None) same (subst (Tells (refuses state came q)) none tells)) in
+    subst (λ (s : S). Tells (refuses s came r) None) at (subst (λ (v : RequestView). Tells (refuses state came v) None) same (subst (Tells (refuses state came q)) nothing tells)) in
     on_ok result (λ done. inr (never, subst (λ (v : RequestView). IsRun answers old v own new) same done)) ran
 
 pub refused_by : {S : Type 0} (refuses : S → Request → RequestView → ℕ → Type 0) (state was : S) (came : Request) (q r : RequestView) (status : Option ℕ) (n : ℕ) → state ≡ was → q ≡ r
