@@ -36,7 +36,7 @@ fn status_of(verdict: Verdict) -> u16
 
 // Content-Range, where a verdict has one.
 fn content_range(alloc: Global, verdict: Verdict, len: usize) -> Result<Option<String>, AllocError>
-    ensures { IfOk result (λ text. option_map string_bytes text ≡ spec.content_range_of verdict len) }
+    ensures { IfOk result (λ t. option_map string_bytes t ≡ spec.content_range_of verdict len) }
 {
     match verdict {
         Verdict::Part(first, last) => Ok(Some(format!(in alloc; "bytes {first}-{last}/{len}")?)),
