@@ -280,10 +280,8 @@ impl<H: Ends + Drop, J: Keeps + Drop> Answerer for Service<H, J> {
 
     ghost judges = { λ old head verdict new. StaysAll old new };
 
-    ghost answers = {
-        λ old asked response new.
-            Serves H.answers H.refuses J.is_clean J.kept old asked response new
-    };
+    ghost answers = { λ old asked response new.
+        Serves H.answers H.refuses J.is_clean J.kept old asked response new };
 
     fn judge(&mut self, head: &[u8]) -> Result<Option<Rejection>, Stop> {
         if is_plain_read(head) {
