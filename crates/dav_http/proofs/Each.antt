@@ -1,5 +1,5 @@
 -- What holds of each element of a list.
-use Rattle.std.proofs.Common.{◌≡◌, ℕ, zero, suc, Bool, true, false, cond, List, [], ◌∷◌, ◌++◌, map, Option, Some, None, refl, subst, slice_index_or}
+use Rattle.std.proofs.Common.{◌≡◌, Bool, true, false, cond, List, [], ◌∷◌, ◌++◌, map, Option, Some, None, refl, subst}
 use Rattle.std.specs.List.{AllByRecursion, filter, filter_map, flat_map, cons_option, last_or, find as first}
 use Rattle.std.specs.FinMap.Entries.{by_order}
 use Rattle.std.specs.FinMap.{find, put}
@@ -45,11 +45,6 @@ module _ {X : Type 0} (P : X → Type 0) where
   pub each_first : (test : X → Bool) (xs : List X) → AllByRecursion P xs → (x : X) → first test xs ≡ Some x → P x
   each_first test [] h x e = absurd cc
   each_first test (y ∷ xs) h x e = found_if (test y) y x (first test xs) h.0 (λ z is. each_first test xs h.1 z is) e
-
-  pub each_index : (xs : List X) (i : ℕ) (d : X) → P d → AllByRecursion P xs → P (slice_index_or xs i d)
-  each_index [] i d h k = h
-  each_index (x ∷ xs) zero d h k = k.0
-  each_index (x ∷ xs) (suc i) d h k = each_index xs i d h k.1
 
 pub each_weaker : {X : Type 0} (P Q : X → Type 0) → ((x : X) → P x → Q x) → (xs : List X) → AllByRecursion P xs → AllByRecursion Q xs
 each_weaker P Q weak [] h = tt

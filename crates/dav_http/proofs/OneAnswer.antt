@@ -21,22 +21,23 @@ one_token _ _ _ (refused not) (granted is) = absurd (not is)
 one_token _ _ _ (refused not) (refused also) = refl
 
 -- bytes are one body
-one_body : (method bytes : List ℕ) (a b : Body) → IsBodyOf method bytes a → IsBodyOf method bytes b → a ≡ b
-one_body method bytes _ _ (nothing is) (nothing also) = refl
-one_body method bytes _ _ (nothing is) (as_tree some takes) = absurd (some is)
-one_body method bytes _ _ (nothing is) (as_bytes some not) = absurd (some is)
-one_body method bytes _ _ (as_tree some takes) (nothing is) = absurd (some is)
-one_body method bytes _ _ (as_tree some takes) (as_tree also takes_too) = refl
-one_body method bytes _ _ (as_tree some takes) (as_bytes also not) = absurd (not takes)
-one_body method bytes _ _ (as_bytes some not) (nothing is) = absurd (some is)
-one_body method bytes _ _ (as_bytes some not) (as_tree also takes) = absurd (not takes)
-one_body method bytes _ _ (as_bytes some not) (as_bytes also not_too) = refl
+one_body : (method : List ℕ) (moment : ℕ) (bytes : List ℕ) (a b : Body) → IsBodyOf method moment bytes a → IsBodyOf method moment bytes b → a ≡ b
+one_body method moment bytes _ _ (nothing is) (nothing also) = refl
+one_body method moment bytes _ _ (nothing is) (as_tree some takes) = absurd (some is)
+one_body method moment bytes _ _ (nothing is) (as_bytes some not) = absurd (some is)
+one_body method moment bytes _ _ (as_tree some takes) (nothing is) = absurd (some is)
+one_body method moment bytes _ _ (as_tree some takes) (as_tree also takes_too) = refl
+one_body method moment bytes _ _ (as_tree some takes) (as_bytes also not) = absurd (not takes)
+one_body method moment bytes _ _ (as_bytes some not) (nothing is) = absurd (some is)
+one_body method moment bytes _ _ (as_bytes some not) (as_tree also takes) = absurd (not takes)
+one_body method moment bytes _ _ (as_bytes some not) (as_bytes also not_too) = refl
 
 -- a head is handed in as one request of the machine
 one_exchange : (head bytes : List ℕ) (who : Caller) (x y : Exchange) (r : Request) → IsHead head r → IsExchangeOf head bytes who x → IsExchangeOf head bytes who y → x ≡ y
 one_exchange head bytes who x y r is a b =
     let method : b.method ≡ a.method = b.is_method r is ∙ sym (a.is_method r is) in
-    let body : x.body ≡ y.body = one_body a.method bytes x.body y.body a.body (subst (λ (m : List ℕ). IsBodyOf m bytes y.body) method b.body) in
+    let body : x.body ≡ y.body = one_body a.method x.moment bytes x.body y.body a.body
+        (subst (λ (n : ℕ). IsBodyOf a.method n bytes y.body) (b.moment ∙ sym a.moment) (subst (λ (m : List ℕ). IsBodyOf m y.moment bytes y.body) method b.body)) in
     let token : x.token ≡ y.token = one_token who.token x.token y.token a.token b.token in
     ap (λ (h : List ℕ). record { head = h; body = x.body; principal = x.principal; moment = x.moment; token = x.token }) (a.head_is ∙ sym b.head_is)
     ∙ ap (λ (t : Body). record { head = y.head; body = t; principal = x.principal; moment = x.moment; token = x.token }) body

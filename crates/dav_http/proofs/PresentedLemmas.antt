@@ -23,7 +23,8 @@ use Rattle.dav_http.specs.Presented.{AsksOf, HasNoQuery, IsTypeAt, ShowsFile, Te
 use Rattle.dav_http.specs.PresentedParts.{IsValid}
 use Rattle.dav_http.specs.Steps.{sent_bytes}
 use Rattle.dav_http.proofs.Addressed.{values_of_printed}
-use Rattle.dav_http.proofs.Printed.{IsPrinted, decimal_printed, printed_append, printed_more}
+use Rattle.dav_presented.proofs.Printed.{IsPrinted, printed_append, printed_more}
+use Rattle.dav_http.proofs.Printed.{decimal_printed}
 
 -- what `split_once` gives at a question mark
 pub query_parts : (text : List ℕ) (r : Option (Bor (List ℕ) × Bor (List ℕ)))

@@ -22,7 +22,8 @@ use Rattle.dav_xml.specs.Sendable.{IsKnownPrefix, IsSendableAs, known_prefix, Is
 use Rattle.dav_http.specs.Sent.{IsSendableText, IsSendableIfAny, IsSendableLock, AreSendableLocks}
 use Rattle.dav_http.proofs.Each.{test_of, each_append, each_filter, each_map, each_flat_map}
 use Rattle.dav_http.proofs.PlainWords.{plain_word, dav_is_space, apache_is_space, microsoft_is_space, nextcloud_is_space, owncloud_is_space, dav_known, declares_space}
-use Rattle.dav_http.proofs.Printed.{IsPrinted, printed_legal, printed_append, printed_more, decimal_printed, path_printed, path_some, reason_printed}
+use Rattle.dav_presented.proofs.Printed.{IsPrinted, printed_legal, printed_append, printed_more}
+use Rattle.dav_http.proofs.Printed.{decimal_printed, path_printed, path_some, reason_printed}
 
 abbrev pub AllSendable : List ElementTree → Type 0
 AllSendable es = AllByRecursion IsSendable es

@@ -1,5 +1,5 @@
 -- What the server reads of a request may be sent.
-use Rattle.std.proofs.Common.{◌≡◌, ◌≢◌, true≢false, ℕ, ◌<◌, ◌≤◌, true, false, ◌&&◌, ◌==◌, nat_le, List, [], ◌∷◌, length, All, Option, Some, None, Result, Ok, Err, refl, ap, subst, sym, ◌∙◌, arith}
+use Rattle.std.proofs.Common.{◌≡◌, ◌≢◌, true≢false, ℕ, ◌<◌, ◌≤◌, true, false, cond, bytes_eq, codes, ◌&&◌, ◌==◌, nat_le, List, [], ◌∷◌, length, All, Option, Some, None, Result, Ok, Err, refl, ap, subst, sym, ◌∙◌, arith}
 use Rattle.std.proofs.lemmas.Bool.{and_from, eqb-true}
 use Rattle.std.proofs.lemmas.Bool.Decides.{nat_tests}
 use Rattle.std.proofs.lemmas.List.Elements.{All-head, All-tail}
@@ -20,12 +20,16 @@ use Rattle.dav_xml.specs.declared.error.XmlError.TheVariants as errors
 use Rattle.dav_xml.specs.Read.{Fails}
 use Rattle.dav_xml.specs.Namespaces.{document}
 use Rattle.dav_xml.proofs.SentTrees.{read_is_sendable}
-use Rattle.dav_http.specs.Steps.{TakesTree, IsBodyOf, nothing, as_tree, as_bytes, IsTokenOf, missing, granted, refused, read_as, IsExchangeOf}
+use Rattle.dav_presented.specs.Times.{find_as, patch_as}
+use Rattle.dav_presented.proofs.SentLemmas.{asked_may_be_sent}
+use Rattle.dav_xml.specs.Sendable.{IsSendable}
+use Rattle.dav_http.specs.Steps.{TakesTree, IsBodyOf, nothing, as_tree, as_bytes, IsTokenOf, missing, granted, refused, read_as, with_times, IsExchangeOf}
 use Rattle.dav_http.specs.Owners.{prefixed_owners}
 use Rattle.dav_engine.specs.Caller.{Caller}
 use Rattle.dav_http.specs.Sent.{IsSendableText, IsSendableTextIfAny, IsSendableBody}
 use Rattle.dav_http.specs.SentLaws.{IsSendableRequest}
-use Rattle.dav_http.proofs.Printed.{printed_legal}
+use Rattle.dav_presented.proofs.Printed.{printed_legal}
+use Rattle.dav_http.proofs.Each.{test_of}
 use Rattle.dav_http.proofs.SentOwners.{prefixed_owners_may_be_sent}
 
 -- ---- bodies
@@ -40,26 +44,33 @@ no_bytes bs e = none_by_length bs (eqb-true (length bs) 0 (sym e))
 pub some_bytes : (bs : List ℕ) → false ≡ (length bs == 0) → bs ≢ []
 some_bytes bs e none = true≢false (sym (e ∙ ap (λ (xs : List ℕ). length xs == 0) none))
 
-pub by_tree : (method bytes slice : List ℕ) (tree told : ElementTree) → bytes ≢ [] → TakesTree method → slice ≡ bytes → document slice ≡ Ok tree → told ≡ prefixed_owners tree
-    → IsBodyOf method bytes (body.Tree told)
-by_tree method bytes slice tree told some takes is e same =
-    subst (IsBodyOf method bytes) (ap read_as (sym (ap document is) ∙ e) ∙ ap body.Tree (sym same)) (as_tree some takes)
+pub by_tree : (method : List ℕ) (moment : ℕ) (bytes slice : List ℕ) (tree timed told : ElementTree) → bytes ≢ [] → TakesTree method → slice ≡ bytes → document slice ≡ Ok tree
+    → timed ≡ with_times method moment tree → told ≡ prefixed_owners timed → IsBodyOf method moment bytes (body.Tree told)
+by_tree method moment bytes slice tree timed told some takes is e times same =
+    subst (IsBodyOf method moment bytes) (ap (read_as method moment) (sym (ap document is) ∙ e) ∙ ap body.Tree (sym (same ∙ ap prefixed_owners times))) (as_tree some takes)
 
-pub by_fault : (method bytes slice : List ℕ) (error : XmlError) (fault : Fault) → bytes ≢ [] → TakesTree method → slice ≡ bytes → error ≡ errors.Fault fault → Fails error (document slice)
-    → IsBodyOf method bytes body.Malformed
-by_fault method bytes slice error fault some takes is names fails =
+pub by_fault : (method : List ℕ) (moment : ℕ) (bytes slice : List ℕ) (error : XmlError) (fault : Fault) → bytes ≢ [] → TakesTree method → slice ≡ bytes → error ≡ errors.Fault fault → Fails error (document slice)
+    → IsBodyOf method moment bytes body.Malformed
+by_fault method moment bytes slice error fault some takes is names fails =
     let e : document slice ≡ Err fault = subst (λ (x : XmlError). Fails x (document slice)) names fails in
-    subst (IsBodyOf method bytes) (ap read_as (sym (ap document is) ∙ e)) (as_tree some takes)
+    subst (IsBodyOf method moment bytes) (ap (read_as method moment) (sym (ap document is) ∙ e)) (as_tree some takes)
+
+-- a tree with times as they are kept
+timed_sent : (method : List ℕ) (moment : ℕ) (tree : ElementTree) → moment ≤ last_moment → IsSendable tree → IsSendable (with_times method moment tree)
+timed_sent method moment tree le sent =
+    test_of (bytes_eq method (codes "PROPPATCH")) (λ t. IsSendable (cond t (patch_as moment tree) (cond (bytes_eq method (codes "PROPFIND")) (find_as tree) tree)))
+    (λ is. asked_may_be_sent.1 moment tree le sent)
+    (λ is. test_of (bytes_eq method (codes "PROPFIND")) (λ t. IsSendable (cond t (find_as tree) tree)) (λ is. asked_may_be_sent.0 tree sent) (λ is. sent))
 
 -- a body that is read as a tree, once its owners are ready
-read_body : (bytes : List ℕ) (r : Result ElementTree Fault) → document bytes ≡ r → IsSendableBody (read_as r)
-read_body bytes (Ok tree) e = prefixed_owners_may_be_sent tree (read_is_sendable bytes tree e)
-read_body bytes (Err fault) e = tt
+read_body : (method : List ℕ) (moment : ℕ) (bytes : List ℕ) (r : Result ElementTree Fault) → moment ≤ last_moment → document bytes ≡ r → IsSendableBody (read_as method moment r)
+read_body method moment bytes (Ok tree) le e = prefixed_owners_may_be_sent (with_times method moment tree) (timed_sent method moment tree le (read_is_sendable bytes tree e))
+read_body method moment bytes (Err fault) le e = tt
 
-given_body : (method bytes : List ℕ) (content : Body) → IsBodyOf method bytes content → IsSendableBody content
-given_body method bytes content (nothing none) = tt
-given_body method bytes content (as_tree some takes) = read_body bytes (document bytes) refl
-given_body method bytes content (as_bytes some not) = tt
+given_body : (method : List ℕ) (moment : ℕ) (bytes : List ℕ) (content : Body) → moment ≤ last_moment → IsBodyOf method moment bytes content → IsSendableBody content
+given_body method moment bytes content le (nothing none) = tt
+given_body method moment bytes content le (as_tree some takes) = read_body method moment bytes (document bytes) le refl
+given_body method moment bytes content le (as_bytes some not) = tt
 
 -- ---- tokens
 
@@ -92,10 +103,10 @@ given_token text token missing = tt
 given_token text token (granted {text = t} h) = granted_token t h
 given_token text token (refused not) = tt
 
+pub given_moment : (head bytes : List ℕ) (who : Caller) (x : Exchange) → IsExchangeOf head bytes who x → x.moment ≤ last_moment
+given_moment head bytes who x h = rw h.moment (omega arith)
+
 -- a request of somebody whose name may be sent
 pub given_request : (head bytes : List ℕ) (who : Caller) (x : Exchange) → IsExchangeOf head bytes who x → IsSendableTextIfAny x.principal → IsSendableRequest x
 given_request head bytes who x h principal =
-    record { body = given_body h.method bytes x.body h.body; principal = principal; token = given_token who.token x.token h.token }
-
-pub given_moment : (head bytes : List ℕ) (who : Caller) (x : Exchange) → IsExchangeOf head bytes who x → x.moment ≤ last_moment
-given_moment head bytes who x h = rw h.moment (omega arith)
+    record { body = given_body h.method x.moment bytes x.body (given_moment head bytes who x h) h.body; principal = principal; token = given_token who.token x.token h.token }

@@ -31,7 +31,8 @@ use Rattle.dav_xml.specs.Sendable.{IsSendable}
 use Rattle.dav_http.specs.Sent.{IsSendableTextIfAny, IsSendableIfAny, AreSendableLocks, IsSendableBody}
 use Rattle.dav_http.proofs.Each.{each_append, each_filter, each_filter_map, each_first}
 use Rattle.dav_http.proofs.PlainWords.{plain_word, dav_is_space, apache_is_space, microsoft_is_space, dav_known, microsoft_known}
-use Rattle.dav_http.proofs.Printed.{IsPrinted, printed_legal, printed_append, printed_more, none_printed, decimal_printed, hex_printed, date_printed, internet_printed}
+use Rattle.dav_presented.proofs.Printed.{IsPrinted, printed_legal, printed_append, printed_more, none_printed, internet_printed, written_date}
+use Rattle.dav_http.proofs.Printed.{decimal_printed, hex_printed}
 use Rattle.dav_http.proofs.SentNames.{HasPath, asked_sendable}
 use Rattle.dav_http.proofs.SentParts.{AllSendable, dav_of, dav_text_of, with_child_sendable, children_sendable, live_sendable, found_sendable, supported_sendable, IsSendableGroup, property_response_sendable}
 use Rattle.dav_http.proofs.SentPlans.{Says, Sends, sends_ok, sends_ask, sends_look, sends_bind}
@@ -207,9 +208,6 @@ padded_printed n value h = printed_append (replicate (n - length value) 48) valu
 type_printed : (dir : Bool) → IsPrinted (content_type_of dir)
 type_printed true = record { all = refl }
 type_printed false = record { all = refl }
-
-written_date : (moment : ℕ) → moment ≤ last_moment → IsPrinted (date_text_of moment)
-written_date moment le = date_printed (date_of moment) (dates_of_moments moment le).0
 
 written_internet : (moment : ℕ) → moment ≤ last_moment → IsPrinted (internet_date (date_of moment))
 written_internet moment le = internet_printed (date_of moment) (dates_of_moments moment le).0

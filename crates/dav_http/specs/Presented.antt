@@ -16,7 +16,7 @@ use Rattle.dav_server.specs.Headers.{headers_of}
 use Rattle.dav_presented.specs.Fields.{AreConditions}
 use Rattle.dav_presented.specs.Missing.{answered}
 use Rattle.dav_presented.specs.Parts.{body_of, content_range_of, status_of}
-use Rattle.dav_presented.specs.Typed.{typed, unknown_type}
+use Rattle.dav_presented.specs.Typed.{outcomes, typed, unknown_type}
 use Rattle.dav_presented.specs.Types.{acts, type_of}
 use Rattle.dav_presented.specs.Verdict.{verdict_of}
 use Rattle.dav_presented.specs.declared.parts.verdict.Conditions.{Conditions}
@@ -122,7 +122,7 @@ completed_by (Err fault) told = told
 
 -- a multistatus as it is shown, where the body of the request has these bytes (RFC 4918, section 8.2)
 abbrev pub shown_tree : List ℕ → ElementTree → ElementTree
-shown_tree bytes told = typed (completed_by (document bytes) told)
+shown_tree bytes told = completed_by (document bytes) (typed told)
 
 -- the body of a reply, where it is a multistatus
 abbrev pub shown_body : List ℕ → ReplyBody → ReplyBody
@@ -138,6 +138,18 @@ found bytes r =
     else if r.status == 501 then record r { status = 403 }
     else r
 
+-- ---- what was set
+
+-- the body of a reply, where it is a multistatus, with the names by which the client set times
+abbrev pub outcomes_body : ReplyBody → ReplyBody
+outcomes_body (reply.Tree told) = reply.Tree (outcomes told)
+outcomes_body (reply.Bytes content) = reply.Bytes content
+outcomes_body reply.Nothing = reply.Nothing
+
+-- The reply to a PROPPATCH: a multistatus tells times by the names by which the client set them; any other stays (RFC 4918, section 9.2.1).
+abbrev pub patched : Reply → Reply
+patched r = if r.status == 207 then record r { body = outcomes_body r.body } else r
+
 -- ---- all
 
 -- a file was asked for, and is told
@@ -145,13 +157,17 @@ abbrev pub IsOfFile : Request → Reply → Type 0
 IsOfFile q r = ((q.method ≡ codes "GET") ⊎ (q.method ≡ codes "HEAD")) × (r.status ≡ 200)
 
 -- What is sent to a request with a body of these bytes, which came at this moment, of the reply of the machine: a file or a part of it; what a
--- PROPFIND found; and any other reply as it is.
+-- PROPFIND found; what a PROPPATCH set; and any other reply as it is.
 pub data IsShown (q : Request) (body : List ℕ) (moment : ℕ) (r : Reply) (sent : Response) : Type 0 where
   file : IsOfFile q r → (modified : ℕ) → modified_in r.headers ≡ Some modified → ShowsFile q moment r modified sent → IsShown q body moment r sent
   listing : q.method ≡ codes "PROPFIND" → IsSentAs false (found body r) sent → IsShown q body moment r sent
-  other : (IsOfFile q r → modified_in r.headers ≡ None) → q.method ≢ codes "PROPFIND" → IsSentAs (bytes_eq q.method (codes "HEAD")) r sent
+  outcome : q.method ≡ codes "PROPPATCH" → IsSentAs false (patched r) sent → IsShown q body moment r sent
+  other : (IsOfFile q r → modified_in r.headers ≡ None) → q.method ≢ codes "PROPFIND" → q.method ≢ codes "PROPPATCH" → IsSentAs (bytes_eq q.method (codes "HEAD")) r sent
       → IsShown q body moment r sent
 
--- What is told in XML is read by its client, as it is or as it is shown to a PROPFIND with a body of these bytes (RFC 4918, section 8.2).
+-- What is told in XML is read by its client, as it is, as it is shown to a PROPFIND with a body of these bytes, or to a PROPPATCH (RFC 4918,
+-- section 8.2).
 abbrev pub ShownIsReadAgain : Type 0
-ShownIsReadAgain = (bytes : List ℕ) (r : Reply) → HoldsSendable r.body → IsReadByClient r.body × IsReadByClient (found bytes r).body
+ShownIsReadAgain =
+    (bytes : List ℕ) (r : Reply) → HoldsSendable r.body
+    → IsReadByClient r.body × IsReadByClient (found bytes r).body × IsReadByClient (patched r).body

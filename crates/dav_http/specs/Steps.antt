@@ -1,5 +1,5 @@
 -- What the machine is asked for each request that comes, and what it replies (RFC 9110, section 3).
-use Rattle.std.specs.Prelude.{◌≡◌, ◌≢◌, ◌⊎◌, ℕ, min, List, [], codes, Option, Some, None, Result, Ok, Err, false}
+use Rattle.std.specs.Prelude.{◌≡◌, ◌≢◌, ◌⊎◌, ℕ, min, bytes_eq, if◌then◌else◌, List, [], codes, Option, Some, None, Result, Ok, Err, false}
 use Rattle.dav_core.specs.Element.{ElementTree}
 use Rattle.dav_core.specs.World.{empty_from, last_moment}
 use Rattle.dav_engine.specs.declared.reply.ReplyBody.{ReplyBody}
@@ -12,6 +12,7 @@ use Rattle.dav_server.specs.GrantToken.{IsGrantToken}
 use Rattle.dav_server.specs.Head.{Request, IsHead}
 use Rattle.dav_server.specs.Machine.{Exchange}
 use Rattle.dav_server.specs.Server.{Server, Answers}
+use Rattle.dav_presented.specs.Times.{find_as, patch_as}
 use Rattle.dav_xml.specs.declared.error.Fault.{Fault}
 use Rattle.dav_xml.specs.Namespaces.{document}
 use Rattle.dav_xml.specs.Written.{document_of}
@@ -22,17 +23,25 @@ use Rattle.dav_http.specs.Sent.{HoldsSendable}
 abbrev pub TakesTree : List ℕ → Type 0
 TakesTree method = (method ≡ codes "PROPFIND") ⊎ (method ≡ codes "PROPPATCH") ⊎ (method ≡ codes "LOCK")
 
--- the element tree that was read, its owners with the prefix `D`, or that none was
-abbrev pub read_as : Result ElementTree Fault → Body
-read_as (Ok tree) = body.Tree (prefixed_owners tree)
-read_as (Err fault) = body.Malformed
+-- an element tree with the times of files as the server keeps them: a PROPPATCH at this moment sets those, and a PROPFIND that asks for
+-- a time asks for the one that is kept too (RFC 4918, section 15.7)
+abbrev pub with_times : List ℕ → ℕ → ElementTree → ElementTree
+with_times method moment tree =
+    if bytes_eq method (codes "PROPPATCH") then patch_as moment tree
+    else if bytes_eq method (codes "PROPFIND") then find_as tree
+    else tree
 
--- The body of a request as the machine takes it: nothing where it has no bytes; the element tree that they encode, where its method
--- takes one; or else the bytes (RFC 4918, section 8.2).
-pub data IsBodyOf (method bytes : List ℕ) : Body → Type 0 where
-  nothing : bytes ≡ [] → IsBodyOf method bytes body.None
-  as_tree : bytes ≢ [] → TakesTree method → IsBodyOf method bytes (read_as (document bytes))
-  as_bytes : bytes ≢ [] → ¬ TakesTree method → IsBodyOf method bytes (body.Bytes bytes)
+-- the element tree that was read, with times as they are kept, and its owners with the prefix `D`; or that none was
+abbrev pub read_as : List ℕ → ℕ → Result ElementTree Fault → Body
+read_as method moment (Ok tree) = body.Tree (prefixed_owners (with_times method moment tree))
+read_as method moment (Err fault) = body.Malformed
+
+-- The body of a request that is run at this moment, as the machine takes it: nothing where it has no bytes; the element tree that they
+-- encode, where its method takes one; or else the bytes (RFC 4918, section 8.2).
+pub data IsBodyOf (method : List ℕ) (moment : ℕ) (bytes : List ℕ) : Body → Type 0 where
+  nothing : bytes ≡ [] → IsBodyOf method moment bytes body.None
+  as_tree : bytes ≢ [] → TakesTree method → IsBodyOf method moment bytes (read_as method moment (document bytes))
+  as_bytes : bytes ≢ [] → ¬ TakesTree method → IsBodyOf method moment bytes (body.Bytes bytes)
 
 -- the token for a lock that is handed in: the text, where a lock can be granted with it (RFC 4918, section 6.5)
 pub data IsTokenOf : Option (List ℕ) → Option (List ℕ) → Type 0 where
@@ -46,7 +55,7 @@ pub record IsExchangeOf (head bytes : List ℕ) (who : Caller) (x : Exchange) : 
   pub head_is : x.head ≡ head
   pub method : List ℕ
   pub is_method : (request : Request) → IsHead head request → method ≡ request.method
-  pub body : IsBodyOf method bytes x.body
+  pub body : IsBodyOf method x.moment bytes x.body
   pub principal : x.principal ≡ who.principal
   pub moment : x.moment ≡ min who.moment last_moment
   pub token : IsTokenOf who.token x.token

@@ -1,10 +1,11 @@
 //! A server in memory. It is asked for what may be sent alone, so what it tells each client can read.
-ghost use Rattle.std.specs.Prelude.{◌≡◌, ◌↔◌, IfOk};
+ghost use Rattle.std.specs.Prelude.{◌≡◌, ◌≤◌, ◌↔◌, IfOk};
 ghost use Rattle.std.specs.Option.{option_copied};
 ghost use Rattle.std.specs.Result.{IsErrOf};
+ghost use Rattle.dav_core.specs.World.{last_moment};
 ghost use Rattle.dav_server.specs.Head.{Request, IsHead};
 ghost use Rattle.dav_http.specs.Sent.{IsSendableTextIfAny};
-ghost use Rattle.dav_http.specs.Steps.{IsBodyOf, IsExchangeOf, IsTokenOf};
+ghost use Rattle.dav_http.specs.Steps.{IsBodyOf, IsExchangeOf, IsTokenOf, with_times};
 
 mod holders;
 mod refused;
@@ -14,11 +15,13 @@ use crate::head::{Head, takes_tree};
 use crate::owner::with_prefixed_owners;
 use crate::sendable::is_sendable_if_any;
 use bytes::Bytes;
+use dav_core::element::Element;
 use dav_core::errors::NoMemory;
 use dav_core::fs::DavFileSystem;
 use dav_core::ls::DavLock;
 use dav_core::method::DavMethodSet;
 use dav_engine::{Body, Caller, Reply};
+use dav_presented::times::{find_as, patch_as};
 use dav_server::davhandler::{DavHandler, HandlerError};
 use dav_server::exchange::{Exchange, GrantToken, LAST_MOMENT, TokenError};
 use dav_store::memfs::MemFs;
@@ -77,9 +80,29 @@ impl Model for Handler {
     ghost invariant = { λ h. IsSendableServer h.handler.server.state };
 }
 
-// The body of a request with this method, as the machine takes it.
-fn body_of(alloc: Global, method: &[u8], body: Bytes) -> Result<Body, AllocError>
-    ensures { IfOk result (IsBodyOf method.now body) }
+// An element tree with the times of files as the server keeps them.
+fn with_times(
+    alloc: Global,
+    method: &[u8],
+    moment: u64,
+    tree: Element,
+) -> Result<Element, AllocError>
+    requires { moment ≤ last_moment }
+    ensures { IfOk result (λ t. t ≡ with_times method.now moment tree) }
+{
+    if method == b"PROPPATCH".as_slice() {
+        return patch_as(alloc, moment, tree);
+    }
+    if method == b"PROPFIND".as_slice() {
+        return find_as(alloc, tree);
+    }
+    Ok(tree)
+}
+
+// The body of a request with this method that is run at this moment, as the machine takes it.
+fn body_of(alloc: Global, method: &[u8], moment: u64, body: Bytes) -> Result<Body, AllocError>
+    requires { moment ≤ last_moment }
+    ensures { IfOk result (IsBodyOf method.now moment body) }
 {
     if body.is_empty() {
         return Ok(Body::None);
@@ -88,7 +111,10 @@ fn body_of(alloc: Global, method: &[u8], body: Bytes) -> Result<Body, AllocError
         return Ok(Body::Bytes(body));
     }
     match dav_xml::read(alloc, body.as_slice()) {
-        Ok(tree) => Ok(Body::Tree(with_prefixed_owners(alloc, tree)?)),
+        Ok(tree) => {
+            let tree = with_times(alloc, method, moment, tree)?;
+            Ok(Body::Tree(with_prefixed_owners(alloc, tree)?))
+        }
         Err(XmlError::Memory) => Err(AllocError),
         Err(XmlError::Fault(_)) => Ok(Body::Malformed),
     }
@@ -133,9 +159,9 @@ fn exchange_of<'r>(
     if !is_sendable_if_any(caller.principal) {
         return Err(HandleError::Principal);
     }
-    let body = body_of(alloc, method_of(head), body)?;
-    let token = token_of(alloc, caller.token)?;
     let moment = caller.moment.min(LAST_MOMENT);
+    let body = body_of(alloc, method_of(head), moment, body)?;
+    let token = token_of(alloc, caller.token)?;
     match Exchange::new(head, body, caller.principal, moment, token) {
         Ok(exchange) => Ok(exchange),
         Err(_) => Err(HandleError::Memory),

@@ -2,7 +2,7 @@
 ghost use Rattle.std.specs.Prelude.{◌≡◌, IfOk, OnOk, bytes_eq, codes};
 ghost use Rattle.std.specs.Bool.{Decides};
 ghost use Rattle.http_server.specs.Response.{IsBlank};
-ghost use Rattle.dav_http.specs.Presented.{IsOfFile, IsShown, ShowsFile, found, shown_tree, shown_body};
+ghost use Rattle.dav_http.specs.Presented.{IsOfFile, IsShown, ShowsFile, found, outcomes_body, patched, shown_tree, shown_body};
 
 mod asked;
 mod fields;
@@ -18,7 +18,7 @@ use dav_core::element::Element;
 use dav_core::errors::NoMemory;
 use dav_engine::{Reply, ReplyBody};
 use dav_presented::missing::answered;
-use dav_presented::typed::with_types;
+use dav_presented::typed::{outcomes, with_types};
 use dav_xml::XmlError;
 use http::StatusCode;
 use http_server::Response;
@@ -36,6 +36,13 @@ fn is_propfind(method: &[u8]) -> bool
     ensures { Decides result (method.now ≡ codes "PROPFIND") }
 {
     method == b"PROPFIND".as_slice()
+}
+
+// Whether a method is PROPPATCH (RFC 4918, section 9.2).
+fn is_proppatch(method: &[u8]) -> bool
+    ensures { Decides result (method.now ≡ codes "PROPPATCH") }
+{
+    method == b"PROPPATCH".as_slice()
 }
 
 // Whether a file was asked for, and is told.
@@ -76,10 +83,11 @@ fn show_file(
 fn shown_tree(alloc: Global, body: &[u8], told: Element) -> Result<Element, NoMemory>
     ensures { IfOk result (λ sent. sent ≡ shown_tree body.now told) }
 {
+    let told = with_types(alloc, told)?;
     match dav_xml::read(alloc, body) {
-        Ok(propfind) => with_types(alloc, answered(alloc, &propfind, told)?),
+        Ok(propfind) => answered(alloc, &propfind, told),
         Err(XmlError::Memory) => Err(NoMemory),
-        Err(XmlError::Fault(_)) => with_types(alloc, told),
+        Err(XmlError::Fault(_)) => Ok(told),
     }
 }
 
@@ -122,10 +130,42 @@ fn found(alloc: Global, body: &[u8], reply: Reply) -> Result<Reply, NoMemory>
     }
 }
 
+// The body of a reply, where it is a tree, with the names by which times were set.
+fn outcomes_body(alloc: Global, told: ReplyBody) -> Result<ReplyBody, NoMemory>
+    ensures { IfOk result (λ sent. sent ≡ outcomes_body told) }
+{
+    match told {
+        ReplyBody::Tree(tree) => Ok(ReplyBody::Tree(outcomes(alloc, tree)?)),
+        ReplyBody::Bytes(bytes) => Ok(ReplyBody::Bytes(bytes)),
+        ReplyBody::Nothing => Ok(ReplyBody::Nothing),
+    }
+}
+
+// The reply to a PROPPATCH.
+fn patched(alloc: Global, reply: Reply) -> Result<Reply, NoMemory>
+    ensures { IfOk result (λ sent. sent ≡ patched reply) }
+{
+    let Reply {
+        status,
+        headers,
+        body: told,
+    } = reply;
+    let body = if status.as_u16() == 207 {
+        outcomes_body(alloc, told)?
+    } else {
+        told
+    };
+    Ok(Reply {
+        status,
+        headers,
+        body,
+    })
+}
+
 /// Fills a response with what a client is shown of the reply to a request with this head and body, which came at this moment, in
 /// seconds since 1970. A file is shown whole, in part, or not again (RFC 9110, sections 13 and 14), with its type by its name
-/// (section 8.3.1); a PROPFIND is told of each property that it names (RFC 4918, section 9.1), and 403 where it goes too deep; all
-/// else is sent as it is.
+/// (section 8.3.1); a PROPFIND is told of each property that it names (RFC 4918, section 9.1), and 403 where it goes too deep; a PROPPATCH is
+/// told of times by the names by which it set them (section 9.2.1); all else is sent as it is.
 pub fn present(
     alloc: Global,
     head: &Head<'_>,
@@ -139,6 +179,9 @@ pub fn present(
 {
     if is_propfind(head.method()) {
         return send(alloc, found(alloc, body, reply)?, false, response);
+    }
+    if is_proppatch(head.method()) {
+        return send(alloc, patched(alloc, reply)?, false, response);
     }
     if !is_of_file(head, &reply) {
         return send(alloc, reply, is_head(head.method()), response);

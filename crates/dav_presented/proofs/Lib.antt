@@ -5,6 +5,8 @@ pub mod MissingLemmas
 pub mod DotLemmas
 pub mod TypeLemmas
 pub mod TypedLemmas
+pub mod Printed
 pub mod SentNames
 pub mod SentTypes
 pub mod SentLemmas
+pub mod OwnLemmas

@@ -1,18 +1,28 @@
 -- What is shown may be sent.
-use Rattle.std.proofs.Common.{◌≡◌, ℕ, Bool, true, false, cond, ◌&&◌, ◌||◌, List, [], ◌∷◌, ◌++◌, map, codes, bytes_eq, Option, Some, None, refl, sym, ap, subst}
-use Rattle.std.specs.List.{AllByRecursion, filter, list_any}
-use Rattle.dav_core.specs.Element.{ElementTree, ElementTrees, element, text, no_trees, tree_then, trees, tree_list, text_of, name_of, children_of, child_elements, is_element, with_child, with_children}
+use Rattle.std.proofs.Common.{◌≡◌, ℕ, ◌≤◌, Bool, true, false, cond, ◌&&◌, ◌||◌, nat_lt, take, drop, length, List, [], ◌∷◌, ◌++◌, map, codes, bytes_eq, Option, Some, None, IfSome, ◌⊎◌, inl, inr, refl, sym, ap, subst}
+use Rattle.std.specs.List.{AllByRecursion, cons_option, filter, filter_map, list_any}
+use Rattle.std.specs.Option.{option_and_then, option_eq}
+use Rattle.httpdate.specs.Date.{parse_secs}
+use Rattle.dav_core.specs.Element.{ElementTree, ElementTrees, element, text, no_trees, tree_then, trees, tree_list, text_of, name_of, prefix_of, children_of, child_elements, is_element, is_named, with_child, with_children}
+use Rattle.dav_core.specs.Path.{is_nonempty}
+use Rattle.dav_core.specs.World.{last_moment}
+use Rattle.dav_engine.specs.Date.{date_text_of}
 use Rattle.dav_xml.specs.Expanded.{IsPlain}
-use Rattle.dav_xml.specs.Sendable.{IsSendable, AreSendable}
+use Rattle.dav_xml.specs.Sendable.{IsSendable, IsSendableAs, AreSendable}
 use Rattle.dav_xml.proofs.Escapes.{by_test}
 use Rattle.dav_xml.proofs.LegalTrees.{legal_word}
 use Rattle.dav_presented.specs.Names.{is_same, is_dav}
 use Rattle.dav_presented.specs.Missing.{prop_among, is_told, bare, one_more, missing_after, dav_element, not_found, with_missing, completed, completed_child, completed_tree, answered}
 use Rattle.dav_presented.specs.Usual.{has_usual_name, usual}
-use Rattle.dav_presented.specs.Typed.{is_unknown, typed_property, told_property, each_below, type_in, typed_by, typed_child, typed}
-use Rattle.dav_presented.specs.Sent.{ShownMayBeSent}
-use Rattle.dav_presented.proofs.SentNames.{plain_word, dav_as, bare_sent}
-use Rattle.dav_presented.proofs.SentTypes.{TellsWord, type_sent, address_told}
+use Rattle.dav_presented.specs.Times.{Times, asked_too, both, each_named, find_as, is_kept, is_own, is_time, is_unchanged, kept, kept_if, kept_in_propstats, named_as_set, own_space, own_time, patch_as, refused, set_as, timed, times_in, times_of, times_told, windows_time}
+use Rattle.dav_presented.specs.Typed.{is_unknown, typed_property, found_property, told_property, child_told, prop_told, each_below, type_in, typed_by, typed_child, typed, outcome_child, outcomes}
+use Rattle.dav_presented.specs.declared.times.Telling.{Telling}
+use Rattle.dav_presented.specs.declared.times.Telling.TheVariants.{Found, Outcome}
+use Rattle.dav_presented.specs.Sent.{AskedMayBeSent, ShownMayBeSent}
+use Rattle.dav_presented.proofs.Printed.{IsPrinted, date_read, printed_append, printed_legal, written_date}
+use Rattle.dav_presented.proofs.SentNames.{plain_word, dav_as, dav_declared, windows_as, own_as, bare_sent}
+use Rattle.dav_presented.proofs.SentTypes.{TellsWord, no_type, type_sent, address_told}
+use Rattle.dav_presented.proofs.TypedLemmas.{time_named}
 
 abbrev AllSendable : List ElementTree → Type 0
 AllSendable es = AllByRecursion IsSendable es
@@ -76,10 +86,107 @@ usual_keeps = record {
   texts = λ bytes. refl;
 }
 
-told_keeps : (kind : Option (List ℕ)) → TellsWord kind → Keeps (told_property kind)
-told_keeps kind h = record {
-  elements = λ e sent. usual_keeps.elements (typed_property kind e) ((typed_keeps kind h).elements e sent);
-  texts = λ bytes. ap usual ((typed_keeps kind h).texts bytes);
+-- a text of printable ASCII that isn't empty may be sent
+printed_sent : (bytes : List ℕ) → is_nonempty bytes ≡ true → IsPrinted bytes → AreSendable false (tree_then (text bytes) no_trees)
+printed_sent [] some h = absurd cc
+printed_sent (b ∷ bs) some h = (printed_legal (b ∷ bs) h, tt)
+
+some_after : (xs : List ℕ) (b : ℕ) (bs : List ℕ) → is_nonempty (xs ++ b ∷ bs) ≡ true
+some_after [] b bs = refl
+some_after (x ∷ xs) b bs = refl
+
+some_before : (xs ys : List ℕ) → is_nonempty xs ≡ true → is_nonempty (xs ++ ys) ≡ true
+some_before [] ys e = absurd cc
+some_before (x ∷ xs) ys e = refl
+
+-- a date isn't empty
+date_some : (moment : ℕ) → is_nonempty (date_text_of moment) ≡ true
+date_some moment = some_after _ 32 (codes "GMT")
+
+dates_some : (time moment : ℕ) → is_nonempty (date_text_of time ++ date_text_of moment) ≡ true
+dates_some time moment = some_before (date_text_of time) (date_text_of moment) (date_some time)
+
+-- a date that is told may be sent
+date_sent : (moment : ℕ) → moment ≤ last_moment → AreSendable false (tree_then (text (date_text_of moment)) no_trees)
+date_sent moment le = printed_sent (date_text_of moment) (date_some moment) (written_date moment le)
+
+-- times that are told are of the year 9999 or before
+abbrev AreDates : Option Times → Type 0
+AreDates times = IfSome times (λ times. times.0 ≤ last_moment)
+
+timed_sent : (times : Option Times) → AreDates times → (e : ElementTree) → IsSendable e → IsSendable (timed times e)
+timed_sent None h e sent = sent
+timed_sent (Some times) h e sent =
+    by_test (is_time e && is_unchanged (option_and_then parse_secs (text_of e)) times.1) (λ t. IsSendable (cond t (with_children e (text (date_text_of times.0) ∷ [])) e))
+    (λ is. holding e (text (date_text_of times.0) ∷ []) sent (date_sent times.0 h)) (λ is. sent)
+
+both_dates : (a b : Option ℕ) → IfSome a (λ n. n ≤ last_moment) → AreDates (both a b)
+both_dates None b h = tt
+both_dates (Some time) None h = tt
+both_dates (Some time) (Some moment) h = h
+
+read_date : (o : Option ℕ) (bytes : List ℕ) → parse_secs bytes ≡ o → IfSome o (λ n. n ≤ last_moment)
+read_date None bytes e = tt
+read_date (Some secs) bytes e = date_read bytes secs e
+
+dates_if : (short : Bool) (bytes : List ℕ) → AreDates (cond short None (both (parse_secs (take 29 bytes)) (parse_secs (drop 29 bytes))))
+dates_if true bytes = tt
+dates_if false bytes = both_dates (parse_secs (take 29 bytes)) (parse_secs (drop 29 bytes)) (read_date (parse_secs (take 29 bytes)) (take 29 bytes) refl)
+
+dates_of : (o : Option (List ℕ)) → AreDates (option_and_then times_of o)
+dates_of None = tt
+dates_of (Some bytes) = dates_if (nat_lt (length bytes) 29) bytes
+
+dates_in : (o : Option ElementTree) → AreDates (option_and_then times_in o)
+dates_in None = tt
+dates_in (Some e) = dates_of (text_of e)
+
+dates_told : (response : ElementTree) → AreDates (times_told response)
+dates_told response = dates_in (kept_in_propstats (child_elements response))
+
+found_sent : (kind : Option (List ℕ)) (times : Option Times) → TellsWord kind → AreDates times → (e : ElementTree) → IsSendable e → IsSendable (found_property kind times e)
+found_sent kind times h dates e sent = usual_keeps.elements (typed_property kind (timed times e)) ((typed_keeps kind h).elements (timed times e) (timed_sent times dates e sent))
+
+-- what is told of a property, if anything is, may be sent
+abbrev MayBeTold : Option ElementTree → Type 0
+MayBeTold o = IfSome o IsSendable
+
+named_sent : (e : ElementTree) → IsSendable e → IsSendable (named_as_set e)
+named_sent e sent =
+    by_test (is_kept e && option_eq bytes_eq (prefix_of e) (Some (codes "getlastmodified")))
+    (λ t. IsSendable (cond t (dav_element (codes "getlastmodified") []) (cond (is_kept e && option_eq bytes_eq (prefix_of e) (Some windows_time)) (element windows_time (Some (codes "Z")) None [] no_trees) e)))
+    (λ is. (plain_word (codes "getlastmodified") refl refl, (dav_as, tt)))
+    (λ is. by_test (is_kept e && option_eq bytes_eq (prefix_of e) (Some windows_time)) (λ t. IsSendable (cond t (element windows_time (Some (codes "Z")) None [] no_trees) e)) (λ is. (plain_word windows_time refl refl, (windows_as, tt))) (λ is. sent))
+
+-- how properties are told: the times are dates
+abbrev AreDated : Telling → Type 0
+AreDated (Found times) = AreDates times
+AreDated Outcome = Unit {0}
+
+told_sent : (kind : Option (List ℕ)) (telling : Telling) → TellsWord kind → AreDated telling → (e : ElementTree) → IsSendable e → MayBeTold (told_property kind telling e)
+told_sent kind (Found times) h dates e sent = by_test (is_own e) (λ t. MayBeTold (cond t None (Some (found_property kind times e)))) (λ is. tt) (λ is. found_sent kind times h dates e sent)
+told_sent kind Outcome h dates e sent = named_sent e sent
+
+one_told : (o : Option ElementTree) (es : List ElementTree) → MayBeTold o → AllSendable es → AllSendable (cons_option o es)
+one_told None es h k = k
+one_told (Some e) es h k = (h, k)
+
+children_told : (f : ElementTree → Option ElementTree) → ((e : ElementTree) → IsSendable e → MayBeTold (f e)) → (texted : Bool) (ts : ElementTrees) → AreSendable texted ts → AllSendable (filter_map (child_told f) (tree_list ts))
+children_told f k texted no_trees h = tt
+children_told f k texted (tree_then (element n p s a c) ts) h =
+    one_told (f (element n p s a c)) (filter_map (child_told f) (tree_list ts)) (k (element n p s a c) h.0) (children_told f k false ts h.1)
+children_told f k true (tree_then (text bytes) ts) h = absurd h
+children_told f k false (tree_then (text []) ts) h = absurd h
+children_told f k false (tree_then (text (b ∷ bs)) ts) h = children_told f k true ts h.1
+
+props_told : (f : ElementTree → Option ElementTree) → ((e : ElementTree) → IsSendable e → MayBeTold (f e)) → (e : ElementTree) → IsSendable e → IsSendable (with_children e (filter_map (child_told f) (children_of e)))
+props_told f k (element n p s a c) h = (h.0, (h.1.0, all_sent false (filter_map (child_told f) (tree_list c)) (children_told f k false c h.1.1)))
+props_told f k (text bytes) h = absurd h
+
+prop_keeps : (f : ElementTree → Option ElementTree) → ((e : ElementTree) → IsSendable e → MayBeTold (f e)) → Keeps (prop_told f)
+prop_keeps f k = record {
+  elements = λ e sent. by_test (is_dav (codes "prop") e) (λ t. IsSendable (cond t (with_children e (filter_map (child_told f) (children_of e))) e)) (λ is. props_told f k e sent) (λ is. sent);
+  texts = λ bytes. refl;
 }
 
 below_keeps : (name : List ℕ) (f : ElementTree → ElementTree) → Keeps f → Keeps (each_below name f)
@@ -88,14 +195,24 @@ below_keeps name f k = record {
   texts = λ bytes. one_text (is_dav name (text bytes)) bytes;
 }
 
-response_sent : (kind : Option (List ℕ)) → TellsWord kind → (e : ElementTree) → IsSendable e → IsSendable (typed_by kind e)
-response_sent kind h e sent = changed _ (below_keeps (codes "propstat") _ (below_keeps (codes "prop") _ (told_keeps kind h))) e sent
+response_sent : (kind : Option (List ℕ)) (telling : Telling) → TellsWord kind → AreDated telling → (e : ElementTree) → IsSendable e → IsSendable (typed_by kind telling e)
+response_sent kind telling h dates e sent = changed _ (below_keeps (codes "propstat") _ (prop_keeps _ (told_sent kind telling h dates))) e sent
 
 child_keeps : Keeps typed_child
 child_keeps = record {
-  elements = λ e sent. by_test (is_dav (codes "response") e) (λ t. IsSendable (cond t (typed_by (type_in e) e) e)) (λ is. response_sent (type_in e) (address_told e) e sent) (λ is. sent);
+  elements = λ e sent. by_test (is_dav (codes "response") e) (λ t. IsSendable (cond t (typed_by (type_in e) (Found (times_told e)) e) e))
+      (λ is. response_sent (type_in e) (Found (times_told e)) (address_told e) (dates_told e) e sent) (λ is. sent);
   texts = λ bytes. refl;
 }
+
+outcome_keeps : Keeps outcome_child
+outcome_keeps = record {
+  elements = λ e sent. by_test (is_dav (codes "response") e) (λ t. IsSendable (cond t (typed_by None Outcome e) e)) (λ is. response_sent None Outcome no_type tt e sent) (λ is. sent);
+  texts = λ bytes. refl;
+}
+
+outcomes_sent : (told : ElementTree) → IsSendable told → IsSendable (outcomes told)
+outcomes_sent told h = changed outcome_child outcome_keeps told h
 
 typed_sent : (told : ElementTree) → IsSendable told → IsSendable (typed told)
 typed_sent told h = changed typed_child child_keeps told h
@@ -173,5 +290,62 @@ tree_sent (Some prop) told asks h = changed (completed_child (child_elements pro
 answered_sent : (propfind told : ElementTree) → IsSendable propfind → IsSendable told → IsSendable (answered propfind told)
 answered_sent propfind told asks h = tree_sent (prop_among (child_elements propfind)) told (asks_sent (child_elements propfind) (children_sent propfind asks)) h
 
+-- ---- what is run of a request
+
+own_time_sent : IsSendable own_time
+own_time_sent = (plain_word (codes "modified") refl refl, (own_as 84 [] refl refl refl, tt))
+
+asked_keeps : Keeps asked_too
+asked_keeps = record {
+  elements = λ e sent. by_test (is_named (codes "prop") e && list_any is_time (child_elements e)) (λ t. IsSendable (cond t (with_child e own_time) e)) (λ is. child_sent e own_time sent own_time_sent) (λ is. sent);
+  texts = λ bytes. refl;
+}
+
+find_sent : (tree : ElementTree) → IsSendable tree → IsSendable (find_as tree)
+find_sent tree h = changed asked_too asked_keeps tree h
+
+-- a name with which a time is set may be a prefix
+kept_sent : (e : ElementTree) (time moment : ℕ) → is_time e ≡ true → time ≤ last_moment → moment ≤ last_moment → IsSendable (kept (name_of e) time moment)
+kept_sent e time moment is le later = (
+  plain_word (codes "modified") refl refl,
+  (by_name (time_named e is), printed_sent (date_text_of time ++ date_text_of moment) (dates_some time moment) (printed_append (date_text_of time) (date_text_of moment) (written_date time le) (written_date moment later))),
+)
+  where
+    by_name : (name_of e ≡ codes "getlastmodified") ⊎ (name_of e ≡ windows_time) → IsSendableAs (Some (name_of e)) (Some own_space) []
+    by_name (inl same) = subst (λ (n : List ℕ). IsSendableAs (Some n) (Some own_space) []) (sym same) (own_as 103 (codes "etlastmodified") refl refl refl)
+    by_name (inr same) = subst (λ (n : List ℕ). IsSendableAs (Some n) (Some own_space) []) (sym same) (own_as 87 (codes "in32LastModifiedTime") refl refl refl)
+
+kept_if_sent : (moment : ℕ) (e : ElementTree) (o : Option ℕ) → is_time e ≡ true → moment ≤ last_moment → IfSome o (λ n. n ≤ last_moment) → IsSendable e → IsSendable (kept_if moment e o)
+kept_if_sent moment e None is le time sent = sent
+kept_if_sent moment e (Some secs) is le time sent = kept_sent e secs moment is time le
+
+time_in : (o : Option (List ℕ)) → IfSome (option_and_then parse_secs o) (λ n. n ≤ last_moment)
+time_in None = tt
+time_in (Some bytes) = read_date (parse_secs bytes) bytes refl
+
+refused_sent : (e : ElementTree) → IsSendable e → IsSendable (refused e)
+refused_sent (element n p s a c) h = (h.0, (dav_declared, tt))
+refused_sent (text bytes) h = absurd h
+
+set_keeps : (moment : ℕ) → moment ≤ last_moment → Keeps (set_as moment)
+set_keeps moment le = record {
+  elements = λ e sent. by_test (is_time e) (λ t. is_time e ≡ t → IsSendable (cond t (kept_if moment e (option_and_then parse_secs (text_of e))) (cond (is_own e) (refused e) e)))
+      (λ is same. kept_if_sent moment e (option_and_then parse_secs (text_of e)) is le (time_in (text_of e)) sent)
+      (λ no same. by_test (is_own e) (λ t. IsSendable (cond t (refused e) e)) (λ is. refused_sent e sent) (λ is. sent)) refl;
+  texts = λ bytes. refl;
+}
+
+named_keeps : (name : List ℕ) (f : ElementTree → ElementTree) → Keeps f → Keeps (each_named name f)
+named_keeps name f k = record {
+  elements = λ e sent. by_test (is_named name e) (λ t. IsSendable (cond t (with_children e (map f (children_of e))) e)) (λ is. changed f k e sent) (λ is. sent);
+  texts = λ bytes. refl;
+}
+
+patch_sent : (moment : ℕ) (tree : ElementTree) → moment ≤ last_moment → IsSendable tree → IsSendable (patch_as moment tree)
+patch_sent moment tree le h = changed _ (named_keeps (codes "set") _ (named_keeps (codes "prop") _ (set_keeps moment le))) tree h
+
 pub shown_may_be_sent : ShownMayBeSent
-shown_may_be_sent = (typed_sent, answered_sent)
+shown_may_be_sent = (typed_sent, answered_sent, outcomes_sent)
+
+pub asked_may_be_sent : AskedMayBeSent
+asked_may_be_sent = (find_sent, patch_sent)

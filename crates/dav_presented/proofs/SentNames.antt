@@ -21,6 +21,7 @@ use Rattle.dav_xml.proofs.Legal.{legal_utf8}
 use Rattle.dav_xml.proofs.LegalTrees.{legal_word}
 use Rattle.dav_xml.proofs.Declared.{ok_or_else, bytes_same, declared_if, nonempty, uri_here}
 use Rattle.dav_presented.specs.Missing.{bare}
+use Rattle.dav_presented.specs.Times.{own_space}
 
 -- ---- words
 
@@ -71,6 +72,20 @@ dav_known = record { plain = plain_word (codes "D") refl refl; declarable = dav_
 pub dav_as : IsSendableAs (Some (codes "D")) None []
 dav_as = known_prefix (codes "D") dav_known refl refl tt refl
 
+-- ---- the prefix `Z`
+
+windows_declarable : IsDeclarable (codes "Z", codes "urn:schemas-microsoft-com:")
+windows_declarable = record {
+  declared = ap (λ (r : Result (List ℕ) Fault). r >>= λ q. declared_if (may_declare q (codes "urn:schemas-microsoft-com:")) q (codes "urn:schemas-microsoft-com:")) (word_utf8 (codes "Z") refl)
+      ∙ ap (λ (t : Bool). declared_if t (codes "Z") (codes "urn:schemas-microsoft-com:")) (word_chars (codes "Z") refl refl);
+}
+
+windows_known : IsKnownPrefix (codes "Z")
+windows_known = record { plain = plain_word (codes "Z") refl refl; declarable = windows_declarable; legal = legal_word (codes "urn:schemas-microsoft-com:") refl }
+
+pub windows_as : IsSendableAs (Some (codes "Z")) None []
+windows_as = known_prefix (codes "Z") windows_known refl refl tt refl
+
 -- ---- names of a request, without the attributes there
 
 declared_test : (r : Result (List ℕ) Fault) (p uri : List ℕ) → (r >>= λ q. declared_if (may_declare q uri) q uri) ≡ Ok (Some (p, uri)) → may_declare p uri ≡ true
@@ -109,3 +124,23 @@ bare_as prefix namespace attributes (known_prefix own k is none all distinct) = 
 pub bare_sent : (e : ElementTree) → IsSendable e → IsSendable (bare e)
 bare_sent (element name prefix namespace attributes children) h = (h.0, (bare_as prefix namespace attributes h.1.0, tt))
 bare_sent (text bytes) h = absurd h
+
+-- ---- the server's own namespace
+
+own_declarable : (b : ℕ) (p : List ℕ) → list_all (λ b. nat_le 32 b && nat_le b 126) (b ∷ p) ≡ true → are_plain (b ∷ p) ≡ true → may_declare (b ∷ p) own_space ≡ is_plain (b ∷ p) → IsDeclarable (b ∷ p, own_space)
+own_declarable b p e plain may = record {
+  declared = ap (λ (r : Result (List ℕ) Fault). r >>= λ q. declared_if (may_declare q own_space) q own_space) (word_utf8 (b ∷ p) e)
+      ∙ ap (λ (t : Bool). declared_if t (b ∷ p) own_space) (may ∙ word_chars (b ∷ p) e plain);
+}
+
+-- a prefix of ASCII with the server's own namespace
+pub own_as : (b : ℕ) (p : List ℕ) → list_all (λ b. nat_le 32 b && nat_le b 126) (b ∷ p) ≡ true → are_plain (b ∷ p) ≡ true → may_declare (b ∷ p) own_space ≡ is_plain (b ∷ p) → IsSendableAs (Some (b ∷ p)) (Some own_space) []
+own_as b p e plain may =
+    let own : IsExpandedName (Some (b ∷ p)) (Some own_space) = (plain_word (b ∷ p) e plain, (own_declarable b p e plain may, legal_word own_space refl)) in
+    as_read own (declared_kept (Some (b ∷ p)) own_space own)
+
+-- the prefix `D` with its namespace
+pub dav_declared : IsSendableAs (Some (codes "D")) (Some (codes "DAV:")) []
+dav_declared =
+    let own : IsExpandedName (Some (codes "D")) (Some (codes "DAV:")) = (plain_word (codes "D") refl refl, (dav_declarable, legal_word (codes "DAV:") refl)) in
+    as_read own (declared_kept (Some (codes "D")) (codes "DAV:") own)

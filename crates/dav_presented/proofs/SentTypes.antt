@@ -30,7 +30,7 @@ word_sent (b ∷ bs) e = (legal_word (b ∷ bs) e, tt)
 pub type_sent : (kind : List ℕ) → TellsWord (Some kind) → AreSendable false (tree_then (text kind) no_trees)
 type_sent kind h = word_sent kind h.word
 
-no_type : TellsWord None
+pub no_type : TellsWord None
 no_type = record { word = refl }
 
 text_told : (extension : List ℕ) → TellsWord (text_type extension)

@@ -1,9 +1,12 @@
 -- How trees are built, one child after another, and with other children.
 use Rattle.std.proofs.Common.{◌≡◌, ℕ, List, [], ◌∷◌, ◌++◌, map, codes, Option, Some, None, refl, ap, sym, subst, ◌∙◌}
+use Rattle.std.proofs.lemmas.List.{map-append}
+use Rattle.std.proofs.lemmas.List.Elements.{filter_map-append}
+use Rattle.std.specs.List.{cons_option, filter_map}
 use Rattle.dav_core.specs.Element.{ElementTree, element, text, tree_list, trees, name_of, children_of, with_child, with_children}
 use Rattle.dav_presented.specs.Missing.{dav_element}
 
-list_of_trees : (ts : List ElementTree) → tree_list (trees ts) ≡ ts
+pub list_of_trees : (ts : List ElementTree) → tree_list (trees ts) ≡ ts
 list_of_trees [] = refl
 list_of_trees (t ∷ ts) = ap (λ us. t ∷ us) (list_of_trees ts)
 
@@ -20,6 +23,13 @@ rebuilt f name prefix namespace attributes olds news told e h =
     subst (λ t. element name prefix namespace attributes (trees news) ≡ with_children t (map f (children_of t))) e
     (ap (λ ts. element name prefix namespace attributes (trees ts)) (h ∙ ap (map f) (sym (list_of_trees olds))))
 
+-- an element with other children, whatever these are by the ones that it had
+pub rebuilt_by : (g : List ElementTree → List ElementTree) (name : List ℕ) (prefix namespace : Option (List ℕ)) (attributes : List (List ℕ × List ℕ)) (olds news : List ElementTree) (told : ElementTree)
+    → element name prefix namespace attributes (trees olds) ≡ told → news ≡ g olds → element name prefix namespace attributes (trees news) ≡ with_children told (g (children_of told))
+rebuilt_by g name prefix namespace attributes olds news told e h =
+    subst (λ t. element name prefix namespace attributes (trees news) ≡ with_children t (g (children_of t))) e
+    (ap (λ ts. element name prefix namespace attributes (trees ts)) (h ∙ ap g (sym (list_of_trees olds))))
+
 -- an element whose name and children are kept
 pub renamed : (name : List ℕ) (prefix namespace : Option (List ℕ)) (attributes : List (List ℕ × List ℕ)) (olds : List ElementTree) (told : ElementTree) (own : List ℕ) (others : List (List ℕ × List ℕ))
     → element name prefix namespace attributes (trees olds) ≡ told → own ≡ codes "D" → others ≡ []
@@ -27,3 +37,10 @@ pub renamed : (name : List ℕ) (prefix namespace : Option (List ℕ)) (attribut
 renamed name prefix namespace attributes olds told own others e d none =
     ap (λ p. element name (Some p) None others (trees olds)) d ∙ ap (λ others. element name (Some (codes "D")) None others (trees olds)) none
     ∙ subst (λ t. dav_element name olds ≡ dav_element (name_of t) (children_of t)) e (ap (dav_element name) (sym (list_of_trees olds)))
+
+-- what is told of one child more, if anything is
+pub told_more : {X : Type 0} (view : X → ElementTree) (f : ElementTree → Option ElementTree) (yielded : List X) (child : X) (told : Option ElementTree) (before after : List ElementTree)
+    → before ≡ filter_map f (map view yielded) → told ≡ f (view child) → after ≡ before ++ cons_option told [] → after ≡ filter_map f (map view (yielded ++ child ∷ []))
+told_more view f yielded child told before after so_far is added =
+    added ∙ ap (λ bs. bs ++ cons_option told []) so_far ∙ ap (λ t. filter_map f (map view yielded) ++ cons_option t []) is
+    ∙ sym (filter_map-append f (map view yielded) (view child ∷ [])) ∙ ap (filter_map f) (sym (map-append view yielded (child ∷ [])))

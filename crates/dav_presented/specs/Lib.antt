@@ -7,5 +7,8 @@ pub mod Missing
 pub mod Told
 pub mod Types
 pub mod Usual
+pub mod Times
+pub mod TimesParts
+pub mod Own
 pub mod Typed
 pub mod Sent

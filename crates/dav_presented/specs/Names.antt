@@ -18,6 +18,10 @@ space_of e = space_by (namespace_of e) (prefix_of e)
 abbrev pub is_same : ElementTree → ElementTree → Bool
 is_same e f = bytes_eq (space_of e) (space_of f) && bytes_eq (name_of e) (name_of f)
 
+-- Whether an element's name is in that namespace (Namespaces in XML 1.0, section 2.1).
+abbrev pub is_in : List ℕ → ElementTree → Bool
+is_in space e = bytes_eq (space_of e) space
+
 -- Whether a tree is the element of that name in the namespace `DAV:` (RFC 4918, section 14).
 abbrev pub is_dav : List ℕ → ElementTree → Bool
 is_dav name e = bytes_eq (name_of e) name && bytes_eq (space_of e) (codes "DAV:")

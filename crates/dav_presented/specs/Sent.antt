@@ -1,13 +1,24 @@
--- What is shown of a multistatus may be sent: its names are plain, its prefixes may be declared, and its texts are legal (Namespaces in XML
+-- What is shown of a multistatus may be sent, and so may what is run of a request: its names are plain, its prefixes may be declared, and its texts are legal (Namespaces in XML
 -- 1.0, sections 3 to 6; XML 1.0, section 2.2), so a client reads it again (law `sendable_is_read` of dav_xml).
+use Rattle.std.specs.Prelude.{ℕ, ◌≤◌}
 use Rattle.dav_core.specs.Element.{ElementTree}
+use Rattle.dav_core.specs.World.{last_moment}
 use Rattle.dav_xml.specs.Sendable.{IsSendable}
 use Rattle.dav_presented.specs.Missing.{answered}
-use Rattle.dav_presented.specs.Typed.{typed}
+use Rattle.dav_presented.specs.Times.{find_as, patch_as}
+use Rattle.dav_presented.specs.Typed.{outcomes, typed}
 
--- A multistatus that may be sent may be sent with types and usual names, and with the names that are missing, where the body of the request
--- may be sent too, as each one that is read may (RFC 4918, sections 9.1 and 14.16).
+-- A multistatus that may be sent may be sent with types, times and usual names; with the names that are missing, where the body of the
+-- request may be sent too, as each one that is read may; and with the names by which a client set times (RFC 4918, sections 9.1 and 14.16).
 abbrev pub ShownMayBeSent : Type 0
 ShownMayBeSent =
     ((told : ElementTree) → IsSendable told → IsSendable (typed told))
     × ((propfind told : ElementTree) → IsSendable propfind → IsSendable told → IsSendable (answered propfind told))
+    × ((told : ElementTree) → IsSendable told → IsSendable (outcomes told))
+
+-- A request's body that may be sent may be sent as it is run: that of a PROPFIND, and that of a PROPPATCH at a moment up to the end of 9999
+-- (RFC 4918, sections 9.1 and 9.2).
+abbrev pub AskedMayBeSent : Type 0
+AskedMayBeSent =
+    ((tree : ElementTree) → IsSendable tree → IsSendable (find_as tree))
+    × ((moment : ℕ) (tree : ElementTree) → moment ≤ last_moment → IsSendable tree → IsSendable (patch_as moment tree))

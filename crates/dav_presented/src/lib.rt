@@ -13,5 +13,7 @@ pub mod names;
 pub mod parts;
 #[cfg(test)]
 mod tests;
+mod texts;
+pub mod times;
 pub mod typed;
 pub mod types;

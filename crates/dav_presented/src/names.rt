@@ -28,6 +28,13 @@ pub fn is_same(one: &Element, other: &Element) -> bool
     space_of(one) == space_of(other) && one.name == other.name
 }
 
+/// Whether an element's name is in that namespace (Namespaces in XML 1.0, section 2.1).
+pub fn is_in(element: &Element, space: &str) -> bool
+    ensures { result ≡ spec.is_in space.now element.now }
+{
+    space_of(element) == space
+}
+
 /// Whether an element has that name in the namespace `DAV:` (RFC 4918, section 14).
 pub fn is_dav(element: &Element, name: &str) -> bool
     ensures { result ≡ spec.is_dav name.now element.now }

@@ -3,6 +3,7 @@ mod fields;
 mod missing;
 mod names;
 mod parts;
+mod times;
 mod typed;
 mod types;
 

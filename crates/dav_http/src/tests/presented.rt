@@ -46,6 +46,21 @@ const SHOWN: &str = "\
 9 PROPFIND /a.txt HTTP/1.1^Depth: 0^^<propfind xmlns='DAV:'><prop><getetag/><none/></prop></propfind> -> 207 ~HTTP/1.1 404 Not Found
 9 PROPFIND /p.HTML HTTP/1.1^Depth: 0^^ -> 207 ~text/html; charset=utf-8
 9 PROPFIND /a.txt HTTP/1.1^Depth: 0^^<propfind xmlns='DAV:'> -> 400 |
+# times that clients set, as long as nothing is changed after that (sections 9.2 and 15.7); and the server's own property, which no client sets
+20 PUT /photo HTTP/1.1^^x -> 201 |
+20 PROPPATCH /photo HTTP/1.1^^<propertyupdate xmlns='DAV:'><set><prop><getlastmodified>Sun, 06 Nov 1994 08:49:37 GMT</getlastmodified></prop></set></propertyupdate> -> 207 ~<D:prop><D:getlastmodified
+29 PROPFIND /photo HTTP/1.1^Depth: 0^^<propfind xmlns='DAV:'><prop><getlastmodified/></prop></propfind> -> 207 ~<D:prop><D:getlastmodified>Sun, 06 Nov 1994 08:49:37 GMT</D:getlastmodified></D:prop>
+29 PROPFIND /photo HTTP/1.1^Depth: 0^^ -> 207 ~<D:getlastmodified>Sun, 06 Nov 1994 08:49:37 GMT</D:getlastmodified>
+29 PROPFIND /photo HTTP/1.1^Depth: 0^^<propfind xmlns='DAV:' xmlns:t='vuldarg:times'><prop><t:modified/></prop></propfind> -> 207 ~HTTP/1.1 404 Not Found
+29 PROPPATCH /photo HTTP/1.1^^<propertyupdate xmlns='DAV:' xmlns:z='urn:schemas-microsoft-com:'><set><prop><z:Win32LastModifiedTime>Sun, 06 Nov 1994 08:49:38 GMT</z:Win32LastModifiedTime></prop></set></propertyupdate> -> 207 ~Win32LastModifiedTime
+29 PROPFIND /photo HTTP/1.1^Depth: 0^^<propfind xmlns='DAV:'><prop><getlastmodified/></prop></propfind> -> 207 ~<D:getlastmodified>Sun, 06 Nov 1994 08:49:38 GMT</D:getlastmodified>
+29 COPY /photo HTTP/1.1^Destination: http://h/copy^^ -> 201 |
+29 MOVE /photo HTTP/1.1^Destination: http://h/moved^^ -> 201 |
+29 PROPFIND /moved HTTP/1.1^Depth: 0^^ -> 207 ~<D:getlastmodified>Sun, 06 Nov 1994 08:49:38 GMT</D:getlastmodified>
+30 PUT /moved HTTP/1.1^^y -> 204 |
+39 PROPFIND /moved HTTP/1.1^Depth: 0^^ -> 207 ~<D:getlastmodified>Sun, 09 Sep 2001 01:47:10 GMT</D:getlastmodified>
+39 PROPPATCH /moved HTTP/1.1^^<propertyupdate xmlns='DAV:'><set><prop><getlastmodified>yesterday</getlastmodified></prop></set></propertyupdate> -> 207 ~HTTP/1.1 403 Forbidden
+39 PROPPATCH /moved HTTP/1.1^^<propertyupdate xmlns='DAV:' xmlns:t='vuldarg:times'><set><prop><t:modified>x</t:modified></prop></set></propertyupdate> -> 207 ~HTTP/1.1 403 Forbidden
 # how deep (section 9.1)
 9 PROPFIND / HTTP/1.1^Depth: infinity^^ -> 403 ~propfind-finite-depth
 ";

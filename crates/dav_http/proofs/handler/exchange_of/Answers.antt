@@ -1,4 +1,4 @@
-use Rattle.std.proofs.Common.{ap, min, refl, subst, sym, ◌∙◌}
+use Rattle.std.proofs.Common.{ℕ, ap, min, refl, subst, sym, ◌∙◌}
 use Rattle.dav_core.specs.World.{last_moment}
 use Rattle.dav_server.specs.Machine.{Exchange}
 use Rattle.dav_http.specs.Steps.{IsBodyOf, IsTokenOf}
@@ -14,7 +14,8 @@ returns-in-Ok-clause-asked c =
       head_is = ap (λ (x : Exchange). x.head) value;
       method = c.method_of.result.now;
       is_method = λ request is. c.method_of.ensures request is;
-      body = subst (IsBodyOf c.method_of.result.now c.args.body) (sym (ap (λ (x : Exchange). x.body) value)) c.in_ok-body.ensures;
+      body = subst (λ (n : ℕ). IsBodyOf c.method_of.result.now n c.args.body c.in-Ok.exchange.body) (sym (ap (λ (x : Exchange). x.moment) value))
+          (subst (IsBodyOf c.method_of.result.now c.min-moment.result c.args.body) (sym (ap (λ (x : Exchange). x.body) value)) c.in_ok-body.ensures);
       principal = ap (λ (x : Exchange). x.principal) value ∙ ap (λ (r : Caller). r.principal) seen;
       moment = ap (λ (x : Exchange). x.moment) value ∙ c.min-moment.ensures ∙ ap (λ (r : Caller). min r.moment last_moment) seen;
       token = subst (λ t. IsTokenOf t c.in-Ok.exchange.token) (ap (λ (r : Caller). r.token) seen) (subst (IsTokenOf _) (sym (ap (λ (x : Exchange). x.token) value)) c.in_ok-token.ensures);

@@ -1,7 +1,7 @@
 use Rattle.std.proofs.Common.{◌≡◌, map, codes, option_map}
 use Rattle.dav_core.specs.ElementView.{node_tree}
-use Rattle.dav_presented.specs.Typed.{each_below, told_property}
+use Rattle.dav_presented.specs.Typed.{each_below, prop_told, told_property}
 use Rattle.dav_presented.proofs.typed.changed.all_in_response.Given as goal
 
 abbrev pub invariant-loop-child : goal.invariant-loop-child
-invariant-loop-child l = map node_tree l.nodes.items ≡ map (each_below (codes "propstat") (each_below (codes "prop") (told_property (option_map (λ t. t.now) l.kind)))) (map node_tree l.yielded)
+invariant-loop-child l = map node_tree l.nodes.items ≡ map (each_below (codes "propstat") (prop_told (told_property (option_map (λ t. t.now) l.kind) l.telling))) (map node_tree l.yielded)

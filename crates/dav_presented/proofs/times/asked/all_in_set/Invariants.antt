@@ -1,0 +1,7 @@
+use Rattle.std.proofs.Common.{◌≡◌, map, codes}
+use Rattle.dav_core.specs.ElementView.{node_tree}
+use Rattle.dav_presented.specs.Times.{each_named, set_as}
+use Rattle.dav_presented.proofs.times.asked.all_in_set.Given as goal
+
+abbrev pub invariant-loop-child : goal.invariant-loop-child
+invariant-loop-child l = map node_tree l.nodes.items ≡ map (each_named (codes "prop") (set_as l.moment)) (map node_tree l.yielded)
