@@ -9,3 +9,7 @@ pub mod Types
 pub mod Usual
 pub mod Typed
 pub mod Sent
+pub mod Preferences
+pub mod Responses
+pub mod Minimal
+pub mod Quota

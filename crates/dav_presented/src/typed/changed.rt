@@ -1,13 +1,12 @@
 //! Trees in which properties are changed.
 ghost use Rattle.std.specs.Prelude.{◌≡◌, ◌∷◌, [], codes, map, option_map, IfOk, Some};
-ghost use Rattle.std.specs.List.{find};
 ghost use Rattle.dav_core.specs.Element.{child_elements, children_of, text, text_of, with_children};
 ghost use Rattle.dav_core.specs.ElementView.{node_tree};
-ghost use Rattle.dav_presented.specs.Names as name;
 ghost use Rattle.dav_presented.specs.Typed as spec;
 
 use super::usual::with_usual_name;
 use crate::names::is_dav;
+use crate::responses::href;
 use crate::types::type_of;
 use dav_core::element::{Element, XmlNode};
 use dav_core::errors::NoMemory;
@@ -239,19 +238,6 @@ fn response(alloc: Global, kind: Option<&str>, told: Element) -> Result<Element,
         attributes,
         children,
     })
-}
-
-// The address in a response.
-fn href(response: &Element) -> Option<&Element>
-    ensures { option_map (λ e. e.now) result
-        ≡ find (name.is_dav (codes "href")) (child_elements response.now) }
-{
-    for child in response.child_elems() {
-        if is_dav(child, "href") {
-            return Some(child);
-        }
-    }
-    None
 }
 
 // The type by an address.
