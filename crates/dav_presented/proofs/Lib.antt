@@ -2,11 +2,13 @@ pub mod PartLemmas
 pub mod FieldLemmas
 pub mod TreeLemmas
 pub mod MissingLemmas
+pub mod PreferenceLemmas
 pub mod DotLemmas
 pub mod TypeLemmas
 pub mod TypedLemmas
 pub mod Printed
 pub mod SentNames
 pub mod SentTypes
+pub mod SentNumbers
 pub mod SentLemmas
 pub mod OwnLemmas

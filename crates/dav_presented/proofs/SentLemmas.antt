@@ -1,5 +1,5 @@
 -- What is shown may be sent.
-use Rattle.std.proofs.Common.{◌≡◌, ℕ, ◌≤◌, Bool, true, false, cond, ◌&&◌, ◌||◌, nat_lt, take, drop, length, List, [], ◌∷◌, ◌++◌, map, codes, bytes_eq, Option, Some, None, IfSome, ◌⊎◌, inl, inr, refl, sym, ap, subst}
+use Rattle.std.proofs.Common.{◌≡◌, ℕ, ◌≤◌, Bool, true, false, cond, not, ◌&&◌, ◌||◌, nat_lt, take, drop, length, List, [], ◌∷◌, ◌++◌, map, codes, bytes_eq, Option, Some, None, IfSome, ◌⊎◌, inl, inr, refl, sym, ap, subst}
 use Rattle.std.specs.List.{AllByRecursion, cons_option, filter, filter_map, list_any}
 use Rattle.std.specs.Option.{option_and_then, option_eq}
 use Rattle.httpdate.specs.Date.{parse_secs}
@@ -12,15 +12,20 @@ use Rattle.dav_xml.specs.Sendable.{IsSendable, IsSendableAs, AreSendable}
 use Rattle.dav_xml.proofs.Escapes.{by_test}
 use Rattle.dav_xml.proofs.LegalTrees.{legal_word}
 use Rattle.dav_presented.specs.Names.{is_same, is_dav}
-use Rattle.dav_presented.specs.Missing.{prop_among, is_told, bare, one_more, missing_after, dav_element, not_found, with_missing, completed, completed_child, completed_tree, answered}
+use Rattle.dav_presented.specs.Missing.{prop_among, is_in_prop, is_told, bare, one_more, missing_after, dav_element, not_found, with_missing, completed, completed_child, completed_tree, answered}
 use Rattle.dav_presented.specs.Usual.{has_usual_name, usual}
 use Rattle.dav_presented.specs.Times.{Times, asked_too, both, each_named, find_as, is_kept, is_own, is_time, is_unchanged, kept, kept_if, kept_in_propstats, named_as_set, own_space, own_time, patch_as, refused, set_as, timed, times_in, times_of, times_told, windows_time}
 use Rattle.dav_presented.specs.Typed.{is_unknown, typed_property, found_property, told_property, child_told, prop_told, each_below, type_in, typed_by, typed_child, typed, outcome_child, outcomes}
+use Rattle.dav_presented.specs.declared.quota.Room.{Room}
 use Rattle.dav_presented.specs.declared.times.Telling.{Telling}
 use Rattle.dav_presented.specs.declared.times.Telling.TheVariants.{Found, Outcome}
+use Rattle.dav_presented.specs.Minimal.{answered_to, with_propstat}
+use Rattle.dav_presented.specs.Quota.{bytes_property, is_found, is_of_folder, more_in_found, more_in_prop, named_quota, names_quota, quota, telling, with_quota_for, with_quota_of}
+use Rattle.dav_presented.specs.Responses.{changed_child, each_response, ok_status, propstat_of}
 use Rattle.dav_presented.specs.Sent.{AskedMayBeSent, ShownMayBeSent}
 use Rattle.dav_presented.proofs.Printed.{IsPrinted, date_read, printed_append, printed_legal, written_date}
 use Rattle.dav_presented.proofs.SentNames.{plain_word, dav_as, dav_declared, windows_as, own_as, bare_sent}
+use Rattle.dav_presented.proofs.SentNumbers.{decimal_sent}
 use Rattle.dav_presented.proofs.SentTypes.{TellsWord, no_type, type_sent, address_told}
 use Rattle.dav_presented.proofs.TypedLemmas.{time_named}
 
@@ -290,6 +295,98 @@ tree_sent (Some prop) told asks h = changed (completed_child (child_elements pro
 answered_sent : (propfind told : ElementTree) → IsSendable propfind → IsSendable told → IsSendable (answered propfind told)
 answered_sent propfind told asks h = tree_sent (prop_among (child_elements propfind)) told (asks_sent (child_elements propfind) (children_sent propfind asks)) h
 
+-- ---- a response that is changed
+
+response_keeps : (change : ElementTree → ElementTree) → ((e : ElementTree) → IsSendable e → IsSendable (change e)) → Keeps (changed_child change)
+response_keeps change h = record {
+  elements = λ e sent. by_test (is_dav (codes "response") e) (λ t. IsSendable (cond t (change e) e)) (λ is. h e sent) (λ is. sent);
+  texts = λ bytes. refl;
+}
+
+each_response_sent : (change : ElementTree → ElementTree) → ((e : ElementTree) → IsSendable e → IsSendable (change e)) → (told : ElementTree) → IsSendable told → IsSendable (each_response change told)
+each_response_sent change h told may = changed (changed_child change) (response_keeps change h) told may
+
+ok_sent : (es : List ElementTree) → AllSendable es → IsSendable (propstat_of ok_status es)
+ok_sent es all =
+    let status : IsSendable (dav_element (codes "status") (text ok_status ∷ [])) = (plain_word (codes "status") refl refl, (dav_as, (legal_word ok_status refl, tt))) in
+    let prop : IsSendable (dav_element (codes "prop") es) = dav_of (codes "prop") es (plain_word (codes "prop") refl refl) all in
+    dav_of (codes "propstat") (dav_element (codes "prop") es ∷ dav_element (codes "status") (text ok_status ∷ []) ∷ []) (plain_word (codes "propstat") refl refl) (prop, (status, tt))
+
+-- ---- a reply without what is missing
+
+propstat_sent : (response : ElementTree) → IsSendable response → IsSendable (with_propstat response)
+propstat_sent response sent =
+    by_test (list_any (is_dav (codes "propstat")) (child_elements response)) (λ t. IsSendable (cond t response (with_child response (propstat_of ok_status []))))
+    (λ is. sent) (λ is. child_sent response (propstat_of ok_status []) sent (ok_sent [] tt))
+
+answered_to_sent : (leaves_out : Bool) (propfind told : ElementTree) → IsSendable propfind → IsSendable told → IsSendable (answered_to leaves_out propfind told)
+answered_to_sent true propfind told asks may = each_response_sent with_propstat propstat_sent told may
+answered_to_sent false propfind told asks may = answered_sent propfind told asks may
+
+-- ---- the room
+
+bytes_sent : (name : List ℕ) (count : ℕ) → IsPlain name → IsSendable (bytes_property name count)
+bytes_sent name count plain = (plain, (dav_as, decimal_sent count))
+
+quota_sent : (room : Room) → AllSendable (quota room)
+quota_sent room = (
+  bytes_sent (codes "quota-available-bytes") room.available (plain_word (codes "quota-available-bytes") refl refl),
+  (bytes_sent (codes "quota-used-bytes") room.used (plain_word (codes "quota-used-bytes") refl refl), tt),
+)
+
+some_sent : (test : ElementTree → Bool) (es : List ElementTree) → AllSendable es → AllSendable (filter test es)
+some_sent test [] all = tt
+some_sent test (e ∷ es) all = by_test (test e) (λ t. AllSendable (cond t (e ∷ filter test es) (filter test es))) (λ is. (all.0, some_sent test es all.1)) (λ is. some_sent test es all.1)
+
+more_sent_after : (texted : Bool) (ts : ElementTrees) (es : List ElementTree) → AreSendable texted ts → AllSendable es → AreSendable texted (trees (tree_list ts ++ es))
+more_sent_after texted no_trees es h all = all_sent texted es all
+more_sent_after texted (tree_then (element n p s a c) ts) es h all = (h.0, more_sent_after false ts es h.1 all)
+more_sent_after true (tree_then (text bytes) ts) es h all = absurd h
+more_sent_after false (tree_then (text []) ts) es h all = absurd h
+more_sent_after false (tree_then (text (b ∷ bs)) ts) es h all = (h.0, more_sent_after true ts es h.1 all)
+
+with_more_sent : (e : ElementTree) (es : List ElementTree) → IsSendable e → AllSendable es → IsSendable (with_children e (children_of e ++ es))
+with_more_sent (element n p s a c) es h all = (h.0, (h.1.0, more_sent_after false c es h.1.1 all))
+with_more_sent (text bytes) es h all = absurd h
+
+in_prop_keeps : (es : List ElementTree) → AllSendable es → Keeps (more_in_prop es)
+in_prop_keeps es all = record {
+  elements = λ e sent. by_test (is_dav (codes "prop") e) (λ t. IsSendable (cond t (with_children e (children_of e ++ es)) e)) (λ is. with_more_sent e es sent all) (λ is. sent);
+  texts = λ bytes. refl;
+}
+
+in_found_keeps : (es : List ElementTree) → AllSendable es → Keeps (more_in_found es)
+in_found_keeps es all = record {
+  elements = λ e sent. by_test (is_found e) (λ t. IsSendable (cond t (with_children e (map (more_in_prop es) (children_of e))) e)) (λ is. changed (more_in_prop es) (in_prop_keeps es all) e sent) (λ is. sent);
+  texts = λ bytes. refl;
+}
+
+telling_sent : (es : List ElementTree) (response : ElementTree) → AllSendable es → IsSendable response → IsSendable (telling es response)
+telling_sent [] response all sent = sent
+telling_sent (e ∷ es) response all sent =
+    by_test (list_any is_found (child_elements response))
+    (λ t. IsSendable (cond t (with_children response (map (more_in_found (e ∷ es)) (children_of response))) (with_child response (propstat_of ok_status (e ∷ es)))))
+    (λ is. changed (more_in_found (e ∷ es)) (in_found_keeps (e ∷ es) all) response sent) (λ is. child_sent response (propstat_of ok_status (e ∷ es)) sent (ok_sent (e ∷ es) all))
+
+with_quota_of_sent : (room : Room) (prop response : ElementTree) → IsSendable response → IsSendable (with_quota_of room prop response)
+with_quota_of_sent room prop response sent =
+    by_test (is_of_folder response) (λ t. IsSendable (cond t (telling (named_quota room prop response) response) response))
+    (λ is. telling_sent (named_quota room prop response) response (some_sent (λ e. is_in_prop e prop && not (is_told e response)) (quota room) (quota_sent room)) sent) (λ is. sent)
+
+with_quota_for_sent : (room : Room) (asked : Option ElementTree) (told : ElementTree) → IsSendable told → IsSendable (with_quota_for room asked told)
+with_quota_for_sent room None told may = may
+with_quota_for_sent room (Some prop) told may =
+    by_test (names_quota prop) (λ t. IsSendable (cond t (each_response (with_quota_of room prop) told) told))
+    (λ is. each_response_sent (with_quota_of room prop) (with_quota_of_sent room prop) told may) (λ is. may)
+
+pub shown_may_be_sent : ShownMayBeSent
+shown_may_be_sent = record {
+  types = typed_sent;
+  quota = λ room propfind told may. with_quota_for_sent room (prop_among (child_elements propfind)) told may;
+  names = answered_to_sent;
+  times = outcomes_sent;
+}
+
 -- ---- what is run of a request
 
 own_time_sent : IsSendable own_time
@@ -343,9 +440,6 @@ named_keeps name f k = record {
 
 patch_sent : (moment : ℕ) (tree : ElementTree) → moment ≤ last_moment → IsSendable tree → IsSendable (patch_as moment tree)
 patch_sent moment tree le h = changed _ (named_keeps (codes "set") _ (named_keeps (codes "prop") _ (set_keeps moment le))) tree h
-
-pub shown_may_be_sent : ShownMayBeSent
-shown_may_be_sent = (typed_sent, answered_sent, outcomes_sent)
 
 pub asked_may_be_sent : AskedMayBeSent
 asked_may_be_sent = (find_sent, patch_sent)

@@ -11,7 +11,7 @@ use Rattle.dav_presented.specs.Types.{text_type, image_type, sound_type, documen
 use Rattle.dav_presented.specs.Typed.{type_at, type_in}
 
 -- whether a text is of visible ASCII and blanks, and not empty
-abbrev is_word : List ℕ → Bool
+abbrev pub is_word : List ℕ → Bool
 is_word [] = false
 is_word (b ∷ bs) = list_all (λ b. nat_le 32 b && nat_le b 126) (b ∷ bs)
 
@@ -23,7 +23,7 @@ is_word_if_any (Some kind) = is_word kind
 pub record TellsWord (found : Option (List ℕ)) : Type 0 where
   word : is_word_if_any found ≡ true
 
-word_sent : (kind : List ℕ) → is_word kind ≡ true → AreSendable false (tree_then (text kind) no_trees)
+pub word_sent : (kind : List ℕ) → is_word kind ≡ true → AreSendable false (tree_then (text kind) no_trees)
 word_sent [] e = absurd cc
 word_sent (b ∷ bs) e = (legal_word (b ∷ bs) e, tt)
 

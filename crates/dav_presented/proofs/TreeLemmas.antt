@@ -1,9 +1,9 @@
 -- How trees are built, one child after another, and with other children.
-use Rattle.std.proofs.Common.{◌≡◌, ℕ, List, [], ◌∷◌, ◌++◌, map, codes, Option, Some, None, refl, ap, sym, subst, ◌∙◌}
-use Rattle.std.proofs.lemmas.List.{map-append}
+use Rattle.std.proofs.Common.{◌≡◌, ℕ, List, [], ◌∷◌, ◌++◌, map, codes, Option, Some, None, refl, ap, sym, subst, ◌∙◌, append_assoc}
+use Rattle.std.proofs.lemmas.List.{append-nil, map-append}
 use Rattle.std.proofs.lemmas.List.Elements.{filter_map-append}
 use Rattle.std.specs.List.{cons_option, filter_map}
-use Rattle.dav_core.specs.Element.{ElementTree, element, text, tree_list, trees, name_of, children_of, with_child, with_children}
+use Rattle.dav_core.specs.Element.{ElementTree, ElementTrees, element, text, no_trees, tree_then, tree_list, trees, name_of, children_of, with_child, with_children}
 use Rattle.dav_presented.specs.Missing.{dav_element}
 
 pub list_of_trees : (ts : List ElementTree) → tree_list (trees ts) ≡ ts
@@ -15,6 +15,22 @@ pub child_more : (e : ElementTree) (ts : List ElementTree) (t : ElementTree) {ol
 child_more (element name prefix namespace attributes children) ts t so_far added =
     added ∙ ap (λ o. with_child o t) so_far ∙ ap (λ us. element name prefix namespace attributes (trees (us ++ t ∷ []))) (list_of_trees ts)
 child_more (text bytes) ts t so_far added = added ∙ ap (λ o. with_child o t) so_far
+
+-- an element with one more child after those that it had and some more
+pub child_after : (e : ElementTree) (ts : List ElementTree) (t : ElementTree) (us : List ElementTree) {old new : ElementTree} → old ≡ with_children e (children_of e ++ ts)
+    → new ≡ with_child old t → us ≡ ts ++ t ∷ [] → new ≡ with_children e (children_of e ++ us)
+child_after e ts t us so_far added is =
+    child_more e (children_of e ++ ts) t so_far added ∙ ap (with_children e) (append_assoc (children_of e) ts (t ∷ []) ∙ ap (λ vs. children_of e ++ vs) (sym is))
+
+-- an element without more children
+pub same_children : (e : ElementTree) → e ≡ with_children e (children_of e ++ [])
+same_children (element name prefix namespace attributes children) =
+    ap (element name prefix namespace attributes) (sym (again children) ∙ ap trees (sym (append-nil (tree_list children))))
+  where
+    again : (ts : ElementTrees) → trees (tree_list ts) ≡ ts
+    again no_trees = refl
+    again (tree_then t ts) = ap (tree_then t) (again ts)
+same_children (text bytes) = refl
 
 -- an element whose children are changed each by itself
 pub rebuilt : (f : ElementTree → ElementTree) (name : List ℕ) (prefix namespace : Option (List ℕ)) (attributes : List (List ℕ × List ℕ)) (olds news : List ElementTree) (told : ElementTree)

@@ -12,3 +12,7 @@ pub mod TimesParts
 pub mod Own
 pub mod Typed
 pub mod Sent
+pub mod Preferences
+pub mod Responses
+pub mod Minimal
+pub mod Quota

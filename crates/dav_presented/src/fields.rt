@@ -18,7 +18,7 @@ use httpdate::HttpDate;
 use std::alloc::{AllocError, Global};
 
 // The text of the only value.
-fn only_text(values: &[HeaderValue]) -> Option<&str>
+pub(crate) fn only_text(values: &[HeaderValue]) -> Option<&str>
     ensures { option_map (λ t. t.now) result ≡ only_text values.now }
 {
     match values {

@@ -8,9 +8,13 @@
 
 pub mod fields;
 pub mod laws;
+pub mod minimal;
 pub mod missing;
 pub mod names;
 pub mod parts;
+pub mod preferences;
+pub mod quota;
+mod responses;
 #[cfg(test)]
 mod tests;
 mod texts;

@@ -8,7 +8,8 @@ ghost use Rattle.dav_presented.specs.Names as name;
 ghost use Rattle.dav_presented.specs.Told.{TellsAll};
 
 use crate::names::{is_dav, is_same};
-use dav_core::element::{Element, XmlNode};
+use crate::responses::{Change, each_response, propstat_of, with_child};
+use dav_core::element::Element;
 use dav_core::errors::NoMemory;
 use std::alloc::Global;
 
@@ -17,7 +18,7 @@ use std::alloc::Global;
 pub const MOST_NAMES: usize = 1000;
 
 // The element that names properties, in the body of a PROPFIND.
-fn prop_asked(propfind: &Element) -> Option<&Element>
+pub(crate) fn prop_asked(propfind: &Element) -> Option<&Element>
     ensures { option_map (λ e. e.now) result ≡ spec.prop_among (child_elements propfind.now) }
 {
     for part in propfind.child_elems() {
@@ -58,7 +59,7 @@ pub fn asks_for_many(propfind: &Element) -> bool
 }
 
 // Whether a property is among the children of a `prop`.
-fn is_in_prop(property: &Element, prop: &Element) -> bool
+pub(crate) fn is_in_prop(property: &Element, prop: &Element) -> bool
     ensures { result ≡ spec.is_in_prop property.now prop.now }
 {
     for child in prop.child_elems() {
@@ -82,7 +83,7 @@ fn is_in_propstat(property: &Element, propstat: &Element) -> bool
 }
 
 // Whether a property is told in a response.
-fn is_told(property: &Element, response: &Element) -> bool
+pub(crate) fn is_told(property: &Element, response: &Element) -> bool
     ensures { result ≡ spec.is_told property.now response.now }
 {
     for child in response.child_elems() {
@@ -151,47 +152,11 @@ fn missing_in(alloc: Global, prop: &Element, response: &Element) -> Result<Vec<E
     Ok(found)
 }
 
-// An element with elements in it.
-fn holding_all(alloc: Global, name: &str, children: Vec<Element>) -> Result<Element, NoMemory>
-    ensures { IfOk result (λ e. e ≡ with_children (named_by name.now) children.items) }
-{
-    let mut element = Element::new2(alloc, name)?;
-    for child in children {
-        element.push_element(child)?;
-    }
-    Ok(element)
-}
-
-// The status of properties that aren't there.
-fn status_element(alloc: Global) -> Result<Element, NoMemory>
-    ensures { IfOk result (λ e. e ≡ spec.dav_element (codes "status")
-        (text (codes "HTTP/1.1 404 Not Found") ∷ [])) }
-{
-    let mut element = Element::new2(alloc, "D:status")?;
-    element.text("HTTP/1.1 404 Not Found")?;
-    Ok(element)
-}
-
 // Properties that aren't there, under 404.
 fn not_found(alloc: Global, missing: Vec<Element>) -> Result<Element, NoMemory>
     ensures { IfOk result (λ e. e ≡ spec.not_found missing.items) }
 {
-    let prop = holding_all(alloc, "D:prop", missing);
-    let element = with_child(Element::new2(alloc, "D:propstat"), prop);
-    with_child(element, status_element(alloc))
-}
-
-// An element with one more child, where there was memory for both.
-fn with_child(
-    element: Result<Element, NoMemory>,
-    child: Result<Element, NoMemory>,
-) -> Result<Element, NoMemory>
-    ensures { IfOk result (λ e. IsOkAnd element (λ parent. IsOkAnd child (λ c.
-        e ≡ with_child parent c))) }
-{
-    let mut element = element?;
-    element.push_element(child?)?;
-    Ok(element)
+    propstat_of(alloc, "HTTP/1.1 404 Not Found", missing)
 }
 
 // A response with what is missing in it.
@@ -205,58 +170,21 @@ fn completed(alloc: Global, prop: &Element, response: Element) -> Result<Element
     with_child(Ok(response), not_found(alloc, missing))
 }
 
-// A child of a multistatus, where a response is completed.
-fn completed_child(alloc: Global, prop: &Element, child: XmlNode) -> Result<XmlNode, NoMemory>
-    ensures { IfOk result (λ node. node_tree node
-        ≡ spec.completed_child (child_elements prop.now) (node_tree child)) }
-{
-    match child {
-        XmlNode::Element(element) => {
-            if is_dav(&element, "response") {
-                Ok(XmlNode::Element(completed(alloc, prop, element)?))
-            } else {
-                Ok(XmlNode::Element(element))
-            }
-        }
-        XmlNode::Text(text) => Ok(XmlNode::Text(text)),
-    }
+// The change by which each response tells what is missing of the properties that a `prop` names.
+#[derive(Drop)]
+struct Completing<'a> {
+    prop: &'a Element,
 }
 
-// The children of a multistatus, where the responses are completed.
-fn completed_children(
-    alloc: Global,
-    prop: &Element,
-    children: Vec<XmlNode>,
-) -> Result<Vec<XmlNode>, NoMemory>
-    ensures { IfOk result (λ nodes. map node_tree nodes.items
-        ≡ map (spec.completed_child (child_elements prop.now)) (map node_tree children.items)) }
-{
-    let mut nodes = Vec::with_capacity(alloc, children.len())?;
-    for child in children {
-        nodes.push(completed_child(alloc, prop, child)?)?;
-    }
-    Ok(nodes)
-}
+impl<'a> Change for Completing<'a> {
+    ghost use Rattle.dav_core.specs.Element.{child_elements};
+    ghost use Rattle.dav_presented.specs.Missing.{completed};
 
-// A multistatus where the responses are completed.
-fn completed_tree(alloc: Global, prop: &Element, told: Element) -> Result<Element, NoMemory>
-    ensures { IfOk result (λ sent. sent ≡ spec.completed_tree (Some prop.now) told) }
-{
-    let Element {
-        name,
-        prefix,
-        namespace,
-        attributes,
-        children,
-    } = told;
-    let children = completed_children(alloc, prop, children)?;
-    Ok(Element {
-        name,
-        prefix,
-        namespace,
-        attributes,
-        children,
-    })
+    ghost changed = { λ c response. completed (child_elements c.prop.now) response };
+
+    fn change(&self, alloc: Global, response: Element) -> Result<Element, NoMemory> {
+        completed(alloc, self.prop, response)
+    }
 }
 
 // The multistatus that is sent.
@@ -265,7 +193,7 @@ fn answered_by(alloc: Global, prop: Option<&Element>, told: Element) -> Result<E
         sent ≡ spec.completed_tree (option_map (λ e. e.now) prop.entry) told) }
 {
     match prop {
-        Some(prop) => completed_tree(alloc, prop, told),
+        Some(prop) => each_response(alloc, &Completing { prop }, told),
         None => Ok(told),
     }
 }

@@ -3,6 +3,8 @@ mod fields;
 mod missing;
 mod names;
 mod parts;
+mod preferences;
+mod quota;
 mod times;
 mod typed;
 mod types;

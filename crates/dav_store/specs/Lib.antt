@@ -21,3 +21,4 @@ pub mod Loaded
 pub mod Subtrees
 pub mod PartsOf
 pub mod Passing
+pub mod Used

@@ -12,6 +12,7 @@ mod found;
 mod loaded;
 mod passing;
 mod saved;
+mod used;
 #[cfg(test)]
 pub(crate) mod tests;
 

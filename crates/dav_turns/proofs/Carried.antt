@@ -6,7 +6,7 @@ use Rattle.dav_wire.specs.declared.answer.Rejection.{Rejection}
 use Rattle.dav_wire.specs.Exchange.{Act, judged, answered, Chain}
 use Rattle.dav_turns.specs.Connections.{TurnsView}
 use Rattle.dav_turns.specs.Frames.{Order, ReportView}
-use Rattle.dav_turns.specs.Turns.{Does, GoesOn, Heard, HeardAll, Keeping, Server, Turn, got, gone, hello, listed, opened, sent, server, ticked}
+use Rattle.dav_turns.specs.Turns.{Does, GoesOn, Heard, HeardAll, Keeping, Server, Turn, got, gone, hello, listed, measured, opened, sent, server, ticked}
 use Rattle.dav_turns.specs.declared.config.TurnsConfig.{TurnsConfig}
 
 -- a relation between states holds of each thing that a keeper does, of doing nothing, and of two things after each other
@@ -41,6 +41,7 @@ module _ {S : Type 0} (k : Keeping S) (R : S → S → Type 0) (c : Carries k R)
   does_carries config t old new orders (gone is ends same ordered) = subst (R old.keeper) (sym same) (c.same old.keeper)
   does_carries config t old new orders (ticked is marks still) = c.marked old.keeper new.keeper marks
   does_carries config t old new orders (listed is lists still) = c.listed old.keeper t.bytes new.keeper lists
+  does_carries config t old new orders (measured is same still) = subst (R old.keeper) (sym same) (c.same old.keeper)
 
   heard_carries : (config : TurnsConfig) (t : ReportView) (old new : Server S) (orders : List Order) → Heard k config t old new orders → R old.keeper new.keeper
   heard_carries config t old new orders h =

@@ -6,7 +6,7 @@ use Rattle.dav_wire.specs.History.{History, held, after_taken}
 use Rattle.dav_turns.specs.declared.config.TurnsConfig.{TurnsConfig}
 use Rattle.dav_turns.specs.Connections.{ConnectionView, Slots}
 use Rattle.dav_turns.specs.Frames.{Order, ReportView}
-use Rattle.dav_turns.specs.Turns.{Keeping, Server, server, Advances, Counts, Does, hello, opened, got, sent, gone, ticked, listed, GoesOn, IsIn, IsFree, after_hearing, held_in, held_by, room_for, new_connection, slot_after}
+use Rattle.dav_turns.specs.Turns.{Keeping, Server, server, Advances, Counts, Does, hello, opened, got, sent, gone, ticked, listed, measured, GoesOn, IsIn, IsFree, after_hearing, held_in, held_by, room_for, new_connection, slot_after}
 use Rattle.dav_turns.specs.Laws.{Event, report, commit, Happens, BodiesFit}
 
 -- ---- one slot
@@ -100,6 +100,7 @@ module _ {S : Type 0} (k : Keeping S) (config : TurnsConfig) where
   does_fit t old new os (hello kind how still) few = omega (arith, ap held_by still.0, few)
   does_fit t old new os (ticked kind how still) few = omega (arith, ap held_by still.0, few)
   does_fit t old new os (listed kind how still) few = omega (arith, ap held_by still.0, few)
+  does_fit t old new os (measured kind same still) few = omega (arith, ap held_by still.0, few)
   does_fit t old new os (opened kind opening same is) few =
       omega (arith, ap held_by opening.slots, into_free old.slots t.slot (Some (new_connection config.connection t.bytes)) opening.free, few)
   does_fit t old new os (gone kind ends same is) few =

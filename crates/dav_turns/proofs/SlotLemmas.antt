@@ -12,7 +12,7 @@ use Rattle.dav_wire.specs.Exchange.{Act, judged, answered, Call, Judgement, Chai
 use Rattle.dav_wire.specs.History.{Acts, History, IsServed, new_history, after_taken}
 use Rattle.dav_turns.specs.Connections.{ConnectionView, Slots}
 use Rattle.dav_turns.specs.Frames.{Order, ReportView}
-use Rattle.dav_turns.specs.Turns.{Keeping, Server, server, HeardAll, Does, hello, opened, got, sent, gone, ticked, listed, GoesOn, after_hearing, room_for, slot_after, new_connection}
+use Rattle.dav_turns.specs.Turns.{Keeping, Server, server, HeardAll, Does, hello, opened, got, sent, gone, ticked, listed, measured, GoesOn, after_hearing, room_for, slot_after, new_connection}
 use Rattle.dav_turns.specs.Laws.{Event, report, commit, report_in, Happens, turn_events, TurnsHappen, came_on, opens, pieces, stream_of, bytes_for, IsGiven, AreGiven, IsVerdict, AreVerdicts, AreAnswersTo, OrdersAnswerWhatCame}
 
 -- ---- events
@@ -308,6 +308,9 @@ module _ {S : Type 0} (k : Keeping S) (limits : TurnsConfig) where
   does slot t old new os ps out once (listed kind how still) x =
       stays k config old.slots new.slots slot ps _ out _ (ap (λ (s : Slots). get_or s slot None) still.0)
       (other_kind slot t (λ e. let wrong = sym kind ∙ e in cc)) (ap (bytes_for slot) still.1) x
+  does slot t old new os ps out once (measured kind same still) x =
+      stays k config old.slots new.slots slot ps _ out _ (ap (λ (s : Slots). get_or s slot None) still.0)
+      (other_kind slot t (λ e. let wrong = sym kind ∙ e in cc)) (ap (bytes_for slot) still.1) x
   does slot t old new os ps out once (opened kind opening same is) x =
       let other : t.slot ≢ slot =
       λ e. let mine : opens slot t ≡ true = ap (λ b. b && (t.slot == slot)) (eq-eqb t.kind 1 kind) ∙ eq-eqb t.slot slot e in
@@ -402,6 +405,7 @@ module _ {S : Type 0} (k : Keeping S) (limits : TurnsConfig) where
   comes t old new os is (hello kind how still) = absurd (let wrong = sym kind ∙ is in cc)
   comes t old new os is (ticked kind how still) = absurd (let wrong = sym kind ∙ is in cc)
   comes t old new os is (listed kind how still) = absurd (let wrong = sym kind ∙ is in cc)
+  comes t old new os is (measured kind same still) = absurd (let wrong = sym kind ∙ is in cc)
   comes t old new os is (gone kind ends same o) = absurd (let wrong = sym kind ∙ is in cc)
   comes t old new os is (got kind order goes o) = absurd (let wrong = sym kind ∙ is in cc)
   comes t old new os is (sent kind order goes o) = absurd (let wrong = sym kind ∙ is in cc)

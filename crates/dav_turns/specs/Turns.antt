@@ -11,7 +11,7 @@ use Rattle.dav_wire.specs.declared.state.Reason.TheVariants.{Refused}
 use Rattle.dav_wire.specs.declared.state.Refusal.TheVariants.{NoRoom}
 use Rattle.dav_wire.specs.History.{Acts, History, IsServed, IsQuiet, Rests, held, new_history, after_taken, after_sent}
 use Rattle.dav_turns.specs.declared.config.TurnsConfig.{TurnsConfig}
-use Rattle.dav_turns.specs.declared.frames.TheConstants.{HELLO, OPENED, GOT, SENT, GONE, TICK, USERS, TELL, READ, CLOSE}
+use Rattle.dav_turns.specs.declared.frames.TheConstants.{HELLO, OPENED, GOT, SENT, GONE, TICK, USERS, ROOM, TELL, READ, CLOSE}
 use Rattle.dav_turns.specs.Connections.{ConnectionView, Slots, TurnsView}
 use Rattle.dav_turns.specs.Frames.{Order, ReportView, BeginsWith, IsPart, IsTooLong, ReadsReports, order_bytes}
 
@@ -191,6 +191,8 @@ pub data Does {S : Type 0} (k : Keeping S) (config : TurnsConfig) (t : ReportVie
       → Does k config t old new orders
   listed : t.kind ≡ USERS → k.listed old.keeper t.bytes new.keeper → IsStill old new orders
       → Does k config t old new orders
+  measured : t.kind ≡ ROOM → new.keeper ≡ old.keeper → IsStill old new orders
+      → Does k config t old new orders
 
 -- a report: its moment passes, and then it does what its kind says
 pub record Heard {S : Type 0} (k : Keeping S) (config : TurnsConfig) (t : ReportView)
@@ -209,7 +211,7 @@ HeardAll {S} k config (t ∷ ts) old new orders =
 
 -- the slot of the report isn't as its kind needs it, or there is no such kind
 pub data IsMisplaced (slots : Slots) (t : ReportView) : Type 0 where
-  unknown : USERS < t.kind → IsMisplaced slots t
+  unknown : ROOM < t.kind → IsMisplaced slots t
   taken : t.kind ≡ OPENED → (IsFree slots t.slot → ⊥) → IsMisplaced slots t
   empty : (t.kind ≡ GOT) ⊎ ((t.kind ≡ SENT) ⊎ (t.kind ≡ GONE)) → IsEmpty slots t.slot
       → IsMisplaced slots t

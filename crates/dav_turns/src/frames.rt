@@ -18,6 +18,8 @@ pub const GONE: u8 = 4;
 pub const TICK: u8 = 5;
 /// The list of the users was written anew: its bytes.
 pub const USERS: u8 = 6;
+/// So many bytes are free for files: eight bytes.
+pub const ROOM: u8 = 7;
 
 /// Report when the bytes are sent.
 pub const TELL: u8 = 0;

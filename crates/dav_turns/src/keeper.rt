@@ -66,6 +66,9 @@ pub trait Keeper: Answerer {
     fn hear_users(&mut self, bytes: &[u8]) -> Result<(), Stop>
         ensures { OnOk result (listed self.old bytes.now self.new) };
 
+    /// Takes how many bytes are free for files, as the front tells it. The keeper stays the same.
+    fn hear_room(&self, bytes: &[u8]);
+
     /// Takes the address that the requests come from which are answered next.
     fn hear_address(&mut self, address: &[u8]) -> Result<(), Stop>
         ensures { OnOk result (placed self.old address.now self.new) };

@@ -1,13 +1,14 @@
 //! Reports as rows of bytes, and turns as rows of text: reports, what the keeper was told, and the
 //! orders.
 use crate::frames::{
-    CLOSE, GONE, GOT, HELLO, Next, OPENED, READ, SENT, TELL, TICK, USERS, next_in,
+    CLOSE, GONE, GOT, HELLO, Next, OPENED, READ, ROOM, SENT, TELL, TICK, USERS, next_in,
 };
 use crate::{Keeper, TurnError, Turns, TurnsConfig};
 use dav_wire::{Answerer, Asked, Config, Rejection, Stop};
 use http_server::Response;
 use http1::Limits;
 use std::alloc::{AllocError, Global};
+use std::cell::Cell;
 use std::test::Fail;
 
 /// Bytes as two digits each, by docs/SERVE.md: slot, kind, length, seconds, and the bytes that
@@ -38,6 +39,7 @@ const TURNS: &str = "\
 hello 0 7 abc -> at 7, hello abc, commit -> 
 tick 0 8 -> at 8, mark, commit -> 
 users 0 8 anna:x -> at 8, users anna:x, commit -> 
+room 0 8 12345678 -> at 8, commit, room of 8 -> 
 tick 0 8 ; tick 0 9 -> at 8, mark, at 9, mark, commit -> 
 
 # connections in their slots
@@ -115,6 +117,8 @@ struct Noting {
     alloc: Global,
     notes: Vec<u8>,
     is_full: bool,
+    // How many bytes told of the room.
+    measured: Cell<usize>,
 }
 
 impl Noting {
@@ -186,6 +190,10 @@ impl Keeper for Noting {
         self.note("users ", bytes)
     }
 
+    fn hear_room(&self, bytes: &[u8]) {
+        self.measured.set(bytes.len());
+    }
+
     fn hear_address(&mut self, address: &[u8]) -> Result<(), Stop> {
         self.note("from ", address)
     }
@@ -203,7 +211,12 @@ impl Keeper for Noting {
         if self.is_full {
             return Err(Stop::Disk);
         }
-        self.note("commit", &[])
+        self.note("commit", &[])?;
+        if self.measured.get() == 0 {
+            return Ok(());
+        }
+        let text = format!(in self.alloc; "room of {}", self.measured.get())?;
+        self.note(text.as_str(), &[])
     }
 }
 
@@ -237,7 +250,8 @@ fn kind_of(name: &str) -> u8 {
         "gone" => GONE,
         "tick" => TICK,
         "users" => USERS,
-        _ => 7,
+        "room" => ROOM,
+        _ => 8,
     }
 }
 
@@ -298,6 +312,7 @@ fn served(alloc: Global, reports: &[u8], step: usize) -> Result<Outcome, TurnErr
         alloc,
         notes: Vec::new(alloc),
         is_full: false,
+        measured: Cell::new(0),
     };
     let mut orders = Vec::new(alloc);
     let mut written = Vec::new(alloc);

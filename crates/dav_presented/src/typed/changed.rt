@@ -1,10 +1,9 @@
 //! Trees in which properties are changed.
 ghost use Rattle.std.specs.Prelude.{◌≡◌, ◌≤◌, ◌++◌, [], codes, map, option_map, IfOk, IfSome, OnOk};
-ghost use Rattle.std.specs.List.{cons_option, filter_map, find};
-ghost use Rattle.dav_core.specs.Element.{child_elements, children_of, text_of, with_children};
+ghost use Rattle.std.specs.List.{cons_option, filter_map};
+ghost use Rattle.dav_core.specs.Element.{children_of, text_of, with_children};
 ghost use Rattle.dav_core.specs.ElementView.{node_tree};
 ghost use Rattle.dav_core.specs.World.{last_moment};
-ghost use Rattle.dav_presented.specs.Names as name;
 ghost use Rattle.dav_presented.specs.Times as times;
 ghost use Rattle.dav_presented.specs.TimesParts.{IsDated};
 ghost use Rattle.dav_presented.specs.Typed as spec;
@@ -12,6 +11,7 @@ ghost use Rattle.dav_presented.specs.declared.times.Telling.TheVariants.{Found};
 
 use super::usual::with_usual_name;
 use crate::names::is_dav;
+use crate::responses::href;
 use crate::texts::saying;
 use crate::times::{Telling, Times, is_own, named_as_set, timed, times_told};
 use crate::types::type_of;
@@ -305,19 +305,6 @@ fn response(
         attributes,
         children,
     })
-}
-
-// The address in a response.
-fn href(response: &Element) -> Option<&Element>
-    ensures { option_map (λ e. e.now) result
-        ≡ find (name.is_dav (codes "href")) (child_elements response.now) }
-{
-    for child in response.child_elems() {
-        if is_dav(child, "href") {
-            return Some(child);
-        }
-    }
-    None
 }
 
 // The type by an address.

@@ -1,5 +1,5 @@
 use Rattle.std.proofs.Common.{[], ◌∷◌, refl, ◌∙◌}
-use Rattle.dav_turns.specs.Turns.{hello, opened, got, sent, gone, ticked, listed}
+use Rattle.dav_turns.specs.Turns.{hello, opened, got, sent, gone, ticked, listed, measured}
 use Rattle.std.proofs.lemmas.Result.{on_ok_weaker}
 use Rattle.dav_turns.proofs.TurnLemmas.{on_ok_two, no_order, one_order}
 use Rattle.dav_turns.proofs.table.Table.hear.Goals as goal
@@ -54,5 +54,12 @@ pub returns-in_ok-hear_users-in-6-clause-heard : goal.returns-in_ok-hear_users-i
 returns-in_ok-hear_users-in-6-clause-heard g c = (
   [],
   record { ready = c.hear_moment.new.self; passes = c.in_ok-hear_moment.ensures; does = listed c.in-6.is c.in_ok-hear_users-in-6.ensures (refl, refl) },
+  no_order c.args.orders.now.items,
+)
+
+pub returns-in-7-clause-heard : goal.returns-in-7-clause-heard
+returns-in-7-clause-heard g c = (
+  [],
+  record { ready = c.hear_moment.new.self; passes = c.in_ok-hear_moment.ensures; does = measured c.in-7.is refl (refl, refl) },
   no_order c.args.orders.now.items,
 )
