@@ -11,8 +11,8 @@ returns-then-not-takes_tree c = as_bytes (some_bytes c.args.body c.if-is_empty.e
 
 pub returns-in-Ok : goal.returns-in-Ok
 returns-in-Ok c =
-    by_tree c.args.method.now c.args.moment c.args.body c.as_slice.result.now c.in-Ok.tree c.in_ok-tree.tree c.in_ok-with_prefixed_owners-in-Ok.field-0 (some_bytes c.args.body c.if-is_empty.ensures) (c.if-not-takes_tree.ensures.0 refl)
-    c.as_slice.ensures c.in-Ok.ensures c.in_ok-tree.ensures c.in_ok-with_prefixed_owners-in-Ok.ensures
+    by_tree c.args.method.now c.args.moment c.args.body c.as_slice.result.now c.in-Ok.tree c.in_ok-tree-in-Ok.tree c.in_ok-with_prefixed_owners-in-Ok.field-0 (some_bytes c.args.body c.if-is_empty.ensures) (c.if-not-takes_tree.ensures.0 refl)
+    c.as_slice.ensures c.in-Ok.ensures c.in_ok-tree-in-Ok.ensures c.in_ok-with_prefixed_owners-in-Ok.ensures
 
 pub returns : goal.returns
 returns c =
