@@ -5,3 +5,4 @@ pub mod Basic
 pub mod Users
 pub mod Reading
 pub mod Principals
+pub mod Rules
