@@ -6,3 +6,5 @@ pub mod Users
 pub mod Reading
 pub mod Principals
 pub mod Rules
+pub mod RulesText
+pub mod RulesFaults

@@ -47,7 +47,9 @@ impl Rules {
         ensures { result
             ≡ list_any (gives (option_copied who.entry) right (names path.now)) self.now }
     {
-        self.grants.iter().any(|grant| grant.gives(who, right, path))
+        self.grants
+            .iter()
+            .any(|grant| grant.gives(who, right, path))
     }
 
     // Whether the path is on the way to what this principal has a right to.
