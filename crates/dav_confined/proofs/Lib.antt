@@ -1,5 +1,6 @@
 mod ConfinedPlans
 mod GrantedLemmas
+mod LeaveLemmas
 mod SeenGet
 mod SeenLemmas
 mod SeenPropfind

@@ -3,4 +3,5 @@ pub mod ConfinedSteps
 pub mod Seen
 pub mod SeenSteps
 pub mod Leave
+pub mod Asked
 pub mod Granted
