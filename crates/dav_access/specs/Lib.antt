@@ -5,3 +5,6 @@ pub mod Basic
 pub mod Users
 pub mod Reading
 pub mod Principals
+pub mod Rules
+pub mod RulesText
+pub mod RulesFaults

@@ -7,9 +7,14 @@ mod check;
 mod crypt;
 mod encoding;
 mod error;
+mod fault;
+pub mod file;
+mod grant;
 pub mod laws;
+mod line;
 mod name;
 mod principal;
+mod rules;
 mod secret;
 #[cfg(test)]
 mod tests;
@@ -18,6 +23,10 @@ mod users;
 
 pub use basic::{Credentials, credentials_of};
 pub use error::{Refusal, UsersError};
+pub use fault::{AccessError, Fault};
+pub use grant::{Grant, Right, Whom};
+pub use name::Name;
 pub use principal::principal_of;
+pub use rules::Rules;
 pub use secret::{MOST_PASSWORD, is_secret, matches_secret};
 pub use users::Users;

@@ -45,3 +45,15 @@ impl Name {
         self.text.as_str()
     }
 }
+
+impl Clone for Name {
+    ghost use Rattle.std.specs.Prelude.{◌≡◌};
+
+    ghost is_clone = { λ a b. a ≡ b };
+
+    fn clone(&self) -> Result<Name, AllocError> {
+        Ok(Name {
+            text: self.text.clone()?,
+        })
+    }
+}

@@ -2,6 +2,7 @@
 mod basic;
 mod crypt;
 mod principals;
+mod rules;
 
 use std::alloc::{AllocError, Global};
 

@@ -36,8 +36,8 @@ impl Model for Users {
 }
 
 impl Users {
-    ghost use Rattle.std.specs.Prelude.{◌≡◌, ◌≢◌, ℕ, List, [], IfOk, IsTrue, MatchOption, MatchResult};
-    ghost use Rattle.std.specs.List.{All};
+    ghost use Rattle.std.specs.Prelude.{◌≡◌, ◌≢◌, ℕ, List, [], IfOk, IsTrue, MatchOption, MatchResult, bytes_eq, false, true};
+    ghost use Rattle.std.specs.List.{All, list_any};
     ghost use Rattle.dav_access.specs.Crypt.{Fits};
     ghost use Rattle.dav_access.specs.Users.{Admits, IsFirstOf, IsListed, IsName, ListsUsers};
     ghost use Rattle.dav_access.specs.Reading.{IsReadFault};
@@ -69,7 +69,7 @@ impl Users {
             → Fits password.now secret → IsTrue result }
         ensures named { IsTrue result → IsName name.now }
     {
-        match self.place_of(name) {
+        match self.place_of(name.as_bytes()) {
             Some(place) => self.users[place].check.admits(password),
             None => {
                 self.nobody.admits(password);
@@ -78,13 +78,24 @@ impl Users {
         }
     }
 
+    /// The name of a user with this name.
+    pub fn named(&self, name: &[u8]) -> Option<&Name>
+        ensures { MatchOption result (list_any (λ u. bytes_eq u.0 name.now) self.now ≡ false)
+            (λ n. (list_any (λ u. bytes_eq u.0 name.now) self.now ≡ true) × (n.now ≡ name.now)) }
+    {
+        match self.place_of(name) {
+            Some(place) => Some(&self.users[place].name),
+            None => None,
+        }
+    }
+
     // The place of the first user of this name.
-    fn place_of(&self, name: &str) -> Option<usize>
+    fn place_of(&self, name: &[u8]) -> Option<usize>
         ensures { MatchOption result (All (λ u. u.0 ≢ name.now) self.now)
             (λ place. IsFirstOf self.now name.now place) }
     {
         for (place, user) in self.users.iter().enumerate() {
-            if user.name.as_str() == name {
+            if user.name.as_str().as_bytes() == name {
                 return Some(place);
             }
         }

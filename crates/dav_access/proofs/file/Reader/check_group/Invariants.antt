@@ -1,0 +1,7 @@
+use Rattle.std.proofs.Common.{map, take}
+use Rattle.std.specs.Option.{option_copied}
+use Rattle.dav_access.specs.RulesText.{AllUsers}
+use Rattle.dav_access.proofs.file.Reader.check_group.Given as goal
+
+abbrev pub invariant-loop-word : goal.invariant-loop-word
+invariant-loop-word l = AllUsers (option_copied l.fn.self.users) (take l.word-index (map (λ w. w.now) l.members))

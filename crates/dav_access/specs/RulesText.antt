@@ -1,0 +1,141 @@
+-- The text of the rules. A line grants a right at a path, or says who is in a group; one without words
+-- and one whose first word begins with `#` say nothing.
+use Rattle.std.specs.Prelude.{◌≡◌, ◌≢◌, ◌==◌, ◌||◌, ℕ, All, Bool, true, false, bytes_eq, List, [], ◌∷◌, ◌++◌, Contains, Option, Some, None, codes, map}
+use Rattle.std.specs.Char.{is_ascii_whitespace}
+use Rattle.std.specs.List.{filter, list_any, slice_split}
+use Rattle.percent_encoding.specs.Percent.{percent_decode}
+use Rattle.dav_core.specs.Path.{PathText, is_nonempty, star}
+use Rattle.dav_core.specs.Target.{Reads}
+use Rattle.dav_access.specs.declared.grant.Grant.{Grant}
+use Rattle.dav_access.specs.declared.grant.Right.{Right}
+use Rattle.dav_access.specs.declared.grant.Right.TheVariants.{Read, Write, Admin}
+use Rattle.dav_access.specs.declared.grant.Whom.{Whom}
+use Rattle.dav_access.specs.declared.grant.Whom.TheVariants.{Everybody, EachUser, User}
+
+-- the words of a line: what is between white space
+abbrev pub words_of : List ℕ → List (List ℕ)
+words_of line = filter is_nonempty (slice_split is_ascii_whitespace line)
+
+-- the words of each line of a text
+abbrev pub lines_of : List ℕ → List (List (List ℕ))
+lines_of text = map words_of (slice_split (λ b. b == 10) text)
+
+-- whether a text begins with this byte
+abbrev pub begins_with : ℕ → List ℕ → Bool
+begins_with byte [] = false
+begins_with byte (b ∷ bs) = b == byte
+
+-- whether a line says nothing
+abbrev pub is_silent : List (List ℕ) → Bool
+is_silent [] = true
+is_silent (word ∷ words) = begins_with 35 word
+
+-- whether a word is the name of a group: it begins with `@`
+abbrev pub is_group : List ℕ → Bool
+is_group word = begins_with 64 word
+
+-- a line that says who is in a group: its name, `=`, and the users
+pub record SaysGroup (line : List (List ℕ)) (group : List ℕ) (members : List (List ℕ)) : Type 0 where
+  pub named : is_group group ≡ true
+  pub line_is : line ≡ group ∷ codes "=" ∷ members
+
+-- some of these lines says who is in the group
+pub record IsGroupIn (lines : List (List (List ℕ))) (group : List ℕ) (members : List (List ℕ)) : Type 0 where
+  pub line : List (List ℕ)
+  pub there : Contains lines line
+  pub says : SaysGroup line group members
+
+-- none of these lines says who is in the group
+abbrev pub HasNoGroup : List (List (List ℕ)) → List ℕ → Type 0
+HasNoGroup lines group = (members : List (List ℕ)) → ¬ IsGroupIn lines group members
+
+-- whether a user of the list, if there is one, has this name
+abbrev pub is_user : Option (List (List ℕ × List ℕ)) → List ℕ → Bool
+is_user None name = false
+is_user (Some users) name = list_any (λ u. bytes_eq u.0 name) users
+
+-- the users among these words, each of which is written as in a URL (RFC 3986, section 2.1)
+abbrev pub users_among : Option (List (List ℕ × List ℕ)) → List (List ℕ) → List Whom
+users_among users words = map User (filter (is_user users) (map percent_decode words))
+
+-- a word that can only be the name of a user
+pub record IsPlain (word : List ℕ) : Type 0 where
+  pub not_everybody : word ≢ codes "everybody"
+  pub not_users : word ≢ codes "users"
+  pub no_group : is_group word ≡ false
+
+-- whom a word of a grant means, in a text of these lines
+pub data Means (users : Option (List (List ℕ × List ℕ))) (lines : List (List (List ℕ))) (word : List ℕ)
+    : List Whom → Type 0 where
+  everybody : word ≡ codes "everybody" → Means users lines word (Everybody ∷ [])
+  each_user : word ≡ codes "users" → users ≢ None → Means users lines word (EachUser ∷ [])
+  group : {members : List (List ℕ)} → IsGroupIn lines word members
+      → Means users lines word (users_among users members)
+  user : IsPlain word → is_user users (percent_decode word) ≡ true
+      → Means users lines word (User (percent_decode word) ∷ [])
+
+-- whom words mean, one after the other
+pub data MeanAll (users : Option (List (List ℕ × List ℕ))) (lines : List (List (List ℕ)))
+    : List (List ℕ) → List Whom → Type 0 where
+  none : MeanAll users lines [] []
+  more : {word : List ℕ} {words : List (List ℕ)} {whom rest : List Whom} → Means users lines word whom
+      → MeanAll users lines words rest → MeanAll users lines (word ∷ words) (whom ++ rest)
+
+-- the word of a right that a line may grant
+pub data IsRightWord (word : List ℕ) : Right → Type 0 where
+  read : word ≡ codes "read" → IsRightWord word Read
+  write : word ≡ codes "write" → IsRightWord word Write
+  admin : word ≡ codes "admin" → IsRightWord word Admin
+
+-- the word is a path, read as the target of a request is, and not `*` (RFC 9112, section 3.2)
+pub record IsPathWord (word : List ℕ) (path : PathText) : Type 0 where
+  pub bare : path.prefix ≡ []
+  pub reads : Reads word path.bytes
+  pub no_star : path.bytes ≢ star
+
+-- a line that grants a right at a path, and the grants that it makes
+pub record IsGrantLine (users : Option (List (List ℕ × List ℕ))) (lines : List (List (List ℕ)))
+    (line : List (List ℕ)) (grants : List Grant) : Type 0 where
+  pub right_word : List ℕ
+  pub path_word : List ℕ
+  pub names : List (List ℕ)
+  pub right : Right
+  pub path : PathText
+  pub whom : List Whom
+  pub line_is : line ≡ right_word ∷ path_word ∷ names
+  pub is_right : IsRightWord right_word right
+  pub is_path : IsPathWord path_word path
+  pub some : names ≢ []
+  pub mean : MeanAll users lines names whom
+  pub grants_are : grants ≡ map (λ w. record { whom = w; right = right; path = path }) whom
+
+-- each of these words names a user
+abbrev pub AllUsers : Option (List (List ℕ × List ℕ)) → List (List ℕ) → Type 0
+AllUsers users words = All (λ word. is_user users (percent_decode word) ≡ true) words
+
+-- a good line of a text, of whose lines these are before it; and the grants that it makes
+pub data IsGoodLine (users : Option (List (List ℕ × List ℕ))) (lines before : List (List (List ℕ)))
+    (line : List (List ℕ)) : List Grant → Type 0 where
+  silent : is_silent line ≡ true → IsGoodLine users lines before line []
+  group : {word : List ℕ} {members : List (List ℕ)} → SaysGroup line word members
+      → HasNoGroup before word → members ≢ [] → AllUsers users members
+      → IsGoodLine users lines before line []
+  grant : {grants : List Grant} → is_silent line ≡ false
+      → ((word : List ℕ) (members : List (List ℕ)) → ¬ SaysGroup line word members)
+      → IsGrantLine users lines line grants → IsGoodLine users lines before line grants
+
+-- Lines of a text that come after these grant this, one after the other.
+pub data Grants (users : Option (List (List ℕ × List ℕ))) (lines : List (List (List ℕ)))
+    : List (List (List ℕ)) → List (List (List ℕ)) → List Grant → Type 0 where
+  ended : {before : List (List (List ℕ))} → Grants users lines before [] []
+  next : {before rest : List (List (List ℕ))} {line : List (List ℕ)} {grants more : List Grant}
+      → IsGoodLine users lines before line grants → Grants users lines (before ++ line ∷ []) rest more
+      → Grants users lines before (line ∷ rest) (grants ++ more)
+
+-- a text is that of these rules
+abbrev pub AreRulesOf : Option (List (List ℕ × List ℕ)) → List ℕ → List Grant → Type 0
+AreRulesOf users text rules = Grants users (lines_of text) [] (lines_of text) rules
+
+-- a name of the list, if there is one, that means more than one user in a text of rules
+abbrev pub has_taken_name : Option (List (List ℕ × List ℕ)) → Bool
+has_taken_name users = is_user users (codes "everybody") || is_user users (codes "users")

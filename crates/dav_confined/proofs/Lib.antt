@@ -1,0 +1,9 @@
+mod ConfinedPlans
+mod GrantedLemmas
+mod LeaveLemmas
+mod SeenGet
+mod SeenLemmas
+mod SeenPropfind
+mod StepsConfined
+mod StepsSeen
+mod StoringPlans
