@@ -1,5 +1,5 @@
 //! Laws of a live server.
-ghost use Rattle.dav_live.specs.Life.{RestartsChangeNothing, RestartsGoOn, RunsAreTheMachines};
+ghost use Rattle.dav_live.specs.Life.{FirstDaysBegin, RestartsChangeNothing, RestartsGoOn, RunsAreTheMachines};
 ghost use Rattle.dav_live.specs.LifePromises.{LivesKeepPromises};
 ghost use Rattle.dav_live.specs.Tokens.{TokensDiffer};
 
@@ -25,6 +25,11 @@ pub fn runs_are_the_machines()
 /// the numbers from 0 on has them, with no premise left (RFC 4918, sections 6 and 7).
 pub fn lives_keep_promises()
     ensures { LivesKeepPromises }
+{}
+
+/// A first day begins a run, that of no records: so it is with each start before anything is kept.
+pub fn first_days_begin<J: Keeps>()
+    ensures { FirstDaysBegin J.has_read }
 {}
 
 /// A start goes on with the run that was, whatever a crash left of its journal, and whenever: it ran all records but perhaps those
