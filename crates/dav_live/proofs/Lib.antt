@@ -10,3 +10,4 @@ pub mod LifePromises
 pub mod FirstDays
 pub mod Restarts
 pub mod AdmissionLemmas
+mod ClockLemmas

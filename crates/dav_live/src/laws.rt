@@ -1,4 +1,5 @@
 //! Laws of a live server.
+ghost use Rattle.dav_live.specs.Clock.{ClocksDontJump};
 ghost use Rattle.dav_live.specs.Life.{FirstDaysBegin, RestartsChangeNothing, RestartsGoOn, RunsAreTheMachines};
 ghost use Rattle.dav_live.specs.LifePromises.{LivesKeepPromises};
 ghost use Rattle.dav_live.specs.Tokens.{TokensDiffer};
@@ -8,6 +9,12 @@ use dav_kept::Keeps;
 /// Tokens of two numbers differ, whatever random bytes they are made of (RFC 4918, section 6.5).
 pub fn tokens_differ()
     ensures { TokensDiffer }
+{}
+
+/// A clock never goes back, and doesn't jump where the date does: a lock ends when its time has passed, but for a second a minute (RFC
+/// 4918, section 6.6).
+pub fn clocks_dont_jump()
+    ensures { ClocksDontJump }
 {}
 
 /// A start goes on with what was: two servers over the same snapshot and blocks, with the same batch, hold the same.
