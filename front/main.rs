@@ -4,8 +4,8 @@
 //! and what to do then. The thread carries it out and reports once. So at most one message of a connection is under way in each
 //! direction, and a client that doesn't read stops only itself.
 //!
-//! A report is `slot u32, kind u8, length u32, seconds u64, bytes`, an order `slot u32, next u8, length u32, bytes`; numbers
-//! are little-endian.
+//! A report is `slot u32, kind u8, length u32, seconds u64, date u64, bytes`, an order `slot u32, next u8, length u32, bytes`; numbers
+//! are little-endian. `seconds` are those since the front began, by a clock that nobody sets; `date` those since 1970.
 //!
 //! SIGTERM and Ctrl-C end the core's input: it answers what it has, and ends; then the front does. SIGHUP reports the users again.
 #![deny(unsafe_code)]
@@ -18,7 +18,7 @@ use std::io::{self, BufReader, ErrorKind, Read, Write};
 use std::net::{Shutdown, TcpListener, TcpStream};
 use std::os::unix::process::CommandExt;
 use std::process::{Child, ChildStdin, Command, Stdio, exit};
-use std::sync::atomic::{AtomicUsize, Ordering};
+use std::sync::atomic::{AtomicU64, AtomicUsize, Ordering};
 use std::sync::mpsc::{Receiver, Sender, channel};
 use std::sync::{Arc, Condvar, Mutex};
 use std::thread;
@@ -80,9 +80,44 @@ struct Front {
     /// How many orders were handed out whose bytes aren't written yet.
     writing: AtomicUsize,
     idle: Duration,
+    clock: Clock,
 }
 
-fn seconds() -> u64 {
+/// A clock that goes on steadily, also while the machine sleeps, and is never set.
+struct Clock {
+    begun: Instant,
+    /// How long the machine was up then; none where it doesn't tell.
+    up: Option<Duration>,
+    /// So many milliseconds it slept since then, in which `Instant` stands still.
+    asleep: AtomicU64,
+}
+
+impl Clock {
+    fn new() -> Clock {
+        Clock { begun: Instant::now(), up: uptime(), asleep: AtomicU64::new(0) }
+    }
+
+    /// The seconds since it began.
+    fn seconds(&self) -> u64 {
+        (self.begun.elapsed() + Duration::from_millis(self.asleep.load(Ordering::SeqCst))).as_secs()
+    }
+
+    /// Sees how long the machine slept.
+    fn look(&self) {
+        if let (Some(then), Some(now)) = (self.up, uptime()) {
+            let asleep = now.saturating_sub(then).saturating_sub(self.begun.elapsed());
+            self.asleep.fetch_max(asleep.as_millis() as u64, Ordering::SeqCst);
+        }
+    }
+}
+
+/// How long the machine is up, sleep included.
+fn uptime() -> Option<Duration> {
+    let text = fs::read_to_string("/proc/uptime").ok()?;
+    Duration::try_from_secs_f64(text.split(' ').next()?.parse().ok()?).ok()
+}
+
+fn date() -> u64 {
     SystemTime::now().duration_since(UNIX_EPOCH).map_or(0, |time| time.as_secs())
 }
 
@@ -94,16 +129,18 @@ impl Front {
             freed: Condvar::new(),
             writing: AtomicUsize::new(0),
             idle,
+            clock: Clock::new(),
         }
     }
 
     fn report(&self, slot: usize, kind: u8, bytes: &[u8]) -> io::Result<()> {
-        let mut frame = Vec::with_capacity(17 + bytes.len());
+        let mut frame = Vec::with_capacity(25 + bytes.len());
         frame.extend_from_slice(&(slot as u32).to_le_bytes());
         frame.push(kind);
         frame.extend_from_slice(&(bytes.len() as u32).to_le_bytes());
         let mut core = self.core.lock().unwrap();
-        frame.extend_from_slice(&seconds().to_le_bytes());
+        frame.extend_from_slice(&self.clock.seconds().to_le_bytes());
+        frame.extend_from_slice(&date().to_le_bytes());
         frame.extend_from_slice(bytes);
         match &mut *core {
             Some(input) => input.write_all(&frame),
@@ -228,6 +265,7 @@ fn main() {
     thread::spawn(move || {
         while ticking.report(0, TICK, &[]).is_ok() {
             thread::sleep(SECOND);
+            ticking.clock.look();
         }
     });
     accept(&front, &listener);
@@ -346,7 +384,7 @@ fn end_with_core(front: &Front, mut child: Child) {
 
 /// Begins again in this process's place after the core ran out of memory, at most three times a minute.
 fn begin_again() -> ! {
-    let now = seconds();
+    let now = date();
     let told = std::env::var("FRONT_BEGUN").unwrap_or_default();
     let mut times: Vec<u64> = told.split(',').filter_map(|text| text.parse().ok()).collect();
     times.retain(|time| *time + 60 > now);

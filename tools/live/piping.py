@@ -17,8 +17,8 @@ QUIET = (SECOND, SECOND)
 PLAIN = {**os.environ, "ASAN_OPTIONS": "detect_leaks=0"}
 
 
-def report(kind, told):
-    return struct.pack("<IBIQ", 0, kind, len(told), 1_000_000_000) + told
+def report(kind, told, seconds=0, date=1_000_000_000):
+    return struct.pack("<IBIQQ", 0, kind, len(told), seconds, date) + told
 
 
 def run(words, *requests, answered=None, **more):

@@ -7,5 +7,7 @@ pub mod RunLemmas
 pub mod ServingLemmas
 pub mod TurnRuns
 pub mod LifePromises
+pub mod FirstDays
 pub mod Restarts
 pub mod AdmissionLemmas
+mod ClockLemmas

@@ -83,7 +83,7 @@ tokens_of _ _ _ _ n m (granted fits) missing one two below token is also = none_
 tokens_of _ _ _ _ n m (granted fits) (refused none) one two below token is also = none_is_none token also
 tokens_of _ _ _ _ n m (granted {text} fits) (granted {text = other} fits') (random, sixteen, small, named) (random', sixteen', small', named') below token is also =
     let same : token_text random n ≡ token_text random' m = sym named ∙ some_is text token is ∙ sym (some_is other token also) ∙ named' in
-    omega (arith, tokens_differ random random' n m sixteen sixteen' small small' same)
+    omega (arith, tokens_differ random random' n m small small' same)
 
 later_differ : (r : RecordView) (t : Turn) (n : ℕ) → IsTurnOf r t → HasNumber n r.request.token → (rs : List RecordView) (us : List Turn) (m : ℕ)
     → n + token_count r.request.token ≤ m → AreNumbered m rs → AreTurnsOf rs us → All (Differ t) us

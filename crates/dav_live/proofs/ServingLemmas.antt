@@ -1,21 +1,21 @@
 -- What a live server keeps when it answers and hears.
-use Rattle.std.proofs.Common.{◌≡◌, max, min, inr, ℕ, Result, Ok, Err, OnOk, MatchOption, ◌⊎◌, inl, [], true, false, Bool, IsFalse, IsTrue, String, option_map, string_bytes, List, Option, Some, None, sym, ap, subst, ◌∙◌}
+use Rattle.std.proofs.Common.{◌≡◌, inr, ℕ, Result, Ok, Err, OnOk, MatchOption, ◌⊎◌, inl, [], true, false, Bool, IsFalse, IsTrue, String, option_map, string_bytes, List, Option, Some, None, sym, ap, subst, ◌∙◌}
 use Rattle.std.specs.Global.{Global}
 use Rattle.http_server.specs.declared.response.Response.{Response}
-use Rattle.dav_kept.specs.Kept.{Holding}
+use Rattle.dav_kept.specs.Kept.{Holding, held_by}
+use Rattle.dav_kept.specs.declared.kept.Kept.{Kept}
 use Rattle.dav_kept.specs.Records.{RequestView}
 use Rattle.dav_kept.specs.declared.handler.Effect.TheVariants.{Left}
 use Rattle.http_server.specs.Response.{IsResponse}
 use Rattle.dav_server.specs.Head.{IsHead, Request}
 use Rattle.dav_wire.specs.declared.answer.Asked.{Asked}
-use Rattle.dav_live.specs.Admission.{AdmissionView, IsRequestOf, IsTokenFor, next, none, request_in}
+use Rattle.dav_live.specs.Admission.{AdmissionView, IsRequestOf, IsTokenFor, after_clocks, next, none, request_in}
 use Rattle.dav_live.specs.declared.admission.Admitted.{Admitted}
 use Rattle.dav_live.specs.Numbered.{HasNumber}
 use Rattle.dav_live.specs.Runs.{GoesOn}
 use Rattle.dav_http.specs.Refused.{Tells}
-use Rattle.dav_live.specs.Serving.{EndsLocks, IsEnded, IsPassed, IsResponseTo, IsRun, admission_of, run, answered, held_of, kept_of, one, own_request, not_run}
+use Rattle.dav_live.specs.Serving.{EndsLocks, IsEnded, IsPassed, IsResponseTo, IsRun, StaysAll, admission_of, run, answered, held_of, kept_of, one, own_request, not_run}
 use Rattle.dav_live.specs.declared.service.Service.{Service}
-use Rattle.dav_core.specs.World.{last_moment}
 
 module _ {S : Type 0} (answers : S → RequestView → Response → S → Type 0) where
   -- a request that only reads was answered
@@ -64,22 +64,23 @@ at_none {A} {N} P o e m = subst (λ (t : Option A). MatchOption t N P) e m
 -- ---- a moment passes
 
 pub passed_later : {T E H J : Type 0} (answers : H → RequestView → Response → H → Type 0) (is_clean : J → Type 0) (kept : J → List (List ℕ) → Type 0)
-    (ends : H → ℕ → Option (List ℕ) → Type 0) (r : Result T E) (old new : Service H J) (seconds : ℕ) (a : AdmissionView)
-    → a ≡ record (admission_of old) { moment = max (admission_of old).moment (min seconds last_moment) }
-    → OnOk r ((mid : Holding H) × EndsLocks answers ends a.moment (held_of old) mid × IsEnded answers ends a.moment mid (held_of new))
-    → OnOk r (admission_of new ≡ a) → OnOk r (GoesOn answers is_clean kept (kept_of old) (kept_of new)) → OnOk r (IsPassed answers is_clean kept ends old seconds new)
-passed_later {H} answers is_clean kept ends (Ok x) old new seconds a later ended same goes =
+    (ends : H → ℕ → Option (List ℕ) → Type 0) (r : Result T E) (old noted new : Service H J) (seconds date : ℕ) (a : AdmissionView)
+    → StaysAll old noted → a ≡ after_clocks (admission_of noted) seconds date
+    → OnOk r ((mid : Holding H) × EndsLocks answers ends a.moment (held_of noted) mid × IsEnded answers ends a.moment mid (held_of new))
+    → OnOk r (admission_of new ≡ a) → OnOk r (GoesOn answers is_clean kept (kept_of noted) (kept_of new)) → OnOk r (IsPassed answers is_clean kept ends old seconds date new)
+passed_later {T} {E} {H} {J} answers is_clean kept ends (Ok x) old noted new seconds date a stays later ended same goes =
     let moment : a.moment ≡ (admission_of new).moment = sym (ap (λ (v : AdmissionView). v.moment) same) in
     record {
-      moment = same ∙ later;
+      clocks = same ∙ later ∙ ap (λ (v : AdmissionView). after_clocks v seconds date) stays.0;
       ended = inr (
         ended.0,
-        subst (λ (n : ℕ). EndsLocks answers ends n (held_of old) ended.0) moment ended.1,
+        subst (λ (h : Holding H). EndsLocks answers ends (admission_of new).moment h ended.0) (ap (λ (k : Kept H J). held_by k) stays.1)
+            (subst (λ (n : ℕ). EndsLocks answers ends n (held_of noted) ended.0) moment ended.1),
         subst (λ (n : ℕ). IsEnded answers ends n ended.0 (held_of new)) moment ended.2,
       );
-      goes_on = goes;
+      goes_on = subst (λ (k : Kept H J). GoesOn answers is_clean kept k (kept_of new)) stays.1 goes;
     }
-passed_later answers is_clean kept ends (Err e) old new seconds a later ended same goes = tt
+passed_later answers is_clean kept ends (Err e) old noted new seconds date a stays later ended same goes = tt
 
 -- ---- a request that was admitted
 

@@ -24,7 +24,7 @@ module _ {H J : Type 0} (answers : H → RequestView → Response → H → Type
       (λ (old : Service H J) (bytes : List ℕ) (new : Service H J). IsGreeted old bytes new)
       (λ (old : Service H J) (bytes : List ℕ) (new : Service H J). IsListed old bytes new)
       (λ (old : Service H J) (address : List ℕ) (new : Service H J). StaysAll old new)
-      (λ (old : Service H J) (seconds : ℕ) (new : Service H J). IsPassed answers is_clean kept ends old seconds new)
+      (λ (old : Service H J) (seconds date : ℕ) (new : Service H J). IsPassed answers is_clean kept ends old seconds date new)
       (λ (old new : Service H J). IsMarked saved is_saveable is_clean kept old new) (λ (old new : Service H J). IsCommitted is_clean kept old new))
       (λ old new. RunGoesOn answers saved is_saveable is_clean kept (kept_of old) (kept_of new))
   run_carries refuses ends = record {
@@ -35,7 +35,7 @@ module _ {H J : Type 0} (answers : H → RequestView → Response → H → Type
     greeted = λ a bytes b greets. same_runs answers saved is_saveable is_clean kept (kept_of a) (kept_of b) greets.1;
     listed = λ a bytes b lists. listed_runs a b bytes lists;
     placed = λ a address b stays. same_runs answers saved is_saveable is_clean kept (kept_of a) (kept_of b) stays.1;
-    passed = λ a seconds b passes. goes_on_runs answers saved is_saveable is_clean kept (kept_of a) (kept_of b) passes.goes_on;
+    passed = λ a seconds date b passes. goes_on_runs answers saved is_saveable is_clean kept (kept_of a) (kept_of b) passes.goes_on;
     marked = λ a b marks. kept_runs answers saved is_saveable is_clean kept (kept_of a) (kept_of b) marks.keeps;
     kept = λ a b commits. commits_runs answers saved is_saveable is_clean kept (kept_of a) (kept_of b) commits.commits;
   }

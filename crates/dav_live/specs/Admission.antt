@@ -3,6 +3,7 @@ use Rattle.std.specs.Prelude.{◌≡◌, ◌≢◌, ◌<◌, ◌⊎◌, ◌↔�
 use Rattle.std.specs.Str.{IsUtf8}
 use Rattle.dav_access.specs.Reading.{IsReadFault}
 use Rattle.dav_access.specs.declared.error.UsersError.{UsersError}
+use Rattle.dav_core.specs.World.{last_moment}
 use Rattle.dav_core.specs.declared.errors.DavError.TheVariants.{IllegalPath}
 use Rattle.dav_core.specs.declared.method.DavMethod.{DavMethod}
 use Rattle.dav_core.specs.declared.method.DavMethod.TheVariants.{Get}
@@ -13,6 +14,7 @@ use Rattle.dav_server.specs.Head.{Request}
 use Rattle.dav_server.specs.Method.{GivesServed}
 use Rattle.dav_server.specs.TagLaws.{is_safe}
 use Rattle.dav_server.specs.Target.{TargetNames}
+use Rattle.dav_live.specs.Clock.{moment_after}
 use Rattle.dav_live.specs.Hosts.{TellsFor, value_of}
 use Rattle.dav_live.specs.Numbered.{HasNumber}
 use Rattle.dav_live.specs.Tokens.{token_text}
@@ -23,13 +25,15 @@ use Rattle.dav_live.specs.declared.admission.Reason.{Reason}
 use Rattle.dav_live.specs.declared.admission.Reason.TheVariants.{Misdirected, Unauthorized, TooLong, Outside}
 
 -- What a server goes by: the prefix of its paths, the names of its host, the most seconds for which a lock is granted, its users, if it
--- has a list of them, the moment, in seconds since 1970, and the random bytes of its tokens.
+-- has a list of them, the moment, in seconds since 1970, the seconds that the front's steady clock told last, if it did, and the random
+-- bytes of its tokens.
 pub record AdmissionView : Type 0 where
   pub prefix : List ℕ
   pub hosts : List (List ℕ)
   pub lock_time : ℕ
   pub users : Option (List (List ℕ × List ℕ))
   pub moment : ℕ
+  pub seconds : Option ℕ
   pub random : List ℕ
 
 -- how many slashes a text has
@@ -110,6 +114,12 @@ status_of Outside = 404
 abbrev pub refusal_fields : Reason → List (List ℕ × List ℕ)
 refusal_fields Unauthorized = (codes "www-authenticate", codes "Basic realm=\"vuldarg\", charset=\"UTF-8\"") ∷ []
 refusal_fields _ = []
+
+-- What a server goes by after its front reported these seconds of its steady clock and this date: its moment is at most the end of the
+-- year 9999.
+abbrev pub after_clocks : AdmissionView → ℕ → ℕ → AdmissionView
+after_clocks a seconds date =
+    record a { moment = min (moment_after a.moment a.seconds seconds date) last_moment; seconds = Some seconds }
 
 -- the random bytes after the front told these: the first sixteen of them, in the place of as many
 abbrev pub with_random : List ℕ → List ℕ → List ℕ

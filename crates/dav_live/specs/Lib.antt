@@ -1,4 +1,5 @@
 pub mod Line
+pub mod Clock
 pub mod Hosts
 pub mod Admission
 pub mod Runs

@@ -1,7 +1,7 @@
 -- How the state of a live server came about, and that it lasts.
 use Rattle.std.specs.Prelude.{◌≡◌, ℕ, List, [], ◌∷◌, Option}
 use Rattle.dav_http.specs.Saved.{IsSaveable, Loads, saved_bytes}
-use Rattle.dav_kept.specs.Kept.{Holding, IsRunOf, RecordsRun, Snapshot, answer_step, held_by}
+use Rattle.dav_kept.specs.Kept.{Holding, IsRunOf, RecordsRun, Snapshot, answer_step, held_by, is_new}
 use Rattle.dav_kept.specs.Records.{RecordView}
 use Rattle.dav_kept.specs.declared.kept.Kept.{Kept}
 use Rattle.dav_engine.specs.Reply.{Reply}
@@ -9,7 +9,7 @@ use Rattle.dav_server.specs.Machine.{Exchange}
 use Rattle.dav_server.specs.Server.{AnswersAll, Server, turns}
 use Rattle.dav_http.specs.Steps.{IsExchangeOf}
 use Rattle.dav_live.specs.Answers.{IsAnswer, caller_of}
-use Rattle.dav_live.specs.Runs.{IsLeft, IsOneRun, IsOpened, StartsWith}
+use Rattle.dav_live.specs.Runs.{BeginsRun, IsFirstDay, IsLeft, IsOneRun, IsOpened, StartsWith}
 
 -- Two servers over the same snapshot and blocks, with the same batch, hold the same: so a start goes on with what was.
 abbrev pub RestartsChangeNothing : Type 0
@@ -38,11 +38,18 @@ RunsAreTheMachines = (first last : Server) (records : List RecordView) → Recor
 
 -- ---- from life to life
 
+-- A first day begins a run: that of no records. So it is with each start before anything is kept.
+abbrev pub FirstDaysBegin : {J : Type 0} → (J → List (List ℕ) → Type 0) → Type 0
+FirstDaysBegin {J} has_read =
+    (first : Server) (start : Option Snapshot) (blocks : List (List ℕ)) (new : Kept Server J)
+    → IsOpened IsAnswer Loads has_read first start blocks new → IsFirstDay (is_new new) start blocks
+    → BeginsRun IsAnswer saved_bytes IsSaveable first start blocks (held_by new)
+
 -- A start goes on with the run that was, whatever a crash left of its journal.
 abbrev pub RestartsGoOn : {J : Type 0} → (J → List (List ℕ) → Type 0) → (J → List (List ℕ) → Type 0) → Type 0
 RestartsGoOn {J} kept has_read =
     (first : Server) (records : List RecordView) (old new : Kept Server J)
     (one : IsOneRun IsAnswer saved_bytes IsSaveable kept first records old) (start : Option Snapshot) (blocks : List (List ℕ))
     → IsLeft saved_bytes IsSaveable one.start one.blocks (held_by old) start blocks
-    → IsOpened IsAnswer Loads has_read first start blocks new → (held_by new).batch ≡ []
+    → IsOpened IsAnswer Loads has_read first start blocks new
     → StartsWith IsAnswer saved_bytes IsSaveable first records (held_by old) start blocks (held_by new)

@@ -37,6 +37,6 @@ doing {D} g =
     (λ (old : Service Server (Pair D)) (bytes : List ℕ) (new : Service Server (Pair D)). IsGreeted old bytes new)
     (λ (old : Service Server (Pair D)) (bytes : List ℕ) (new : Service Server (Pair D)). IsListed old bytes new)
     (λ (old : Service Server (Pair D)) (address : List ℕ) (new : Service Server (Pair D)). StaysAll old new)
-    (λ (old : Service Server (Pair D)) (seconds : ℕ) (new : Service Server (Pair D)). IsPassed IsAnswer (λ j. IsCleanPair g j) (λ j blocks. IsKeptPair g j blocks) (λ (s : Server) (now : ℕ) (head : Option (List ℕ)). IsNextEnd s.state.locks now head) old seconds new)
+    (λ (old : Service Server (Pair D)) (seconds date : ℕ) (new : Service Server (Pair D)). IsPassed IsAnswer (λ j. IsCleanPair g j) (λ j blocks. IsKeptPair g j blocks) (λ (s : Server) (now : ℕ) (head : Option (List ℕ)). IsNextEnd s.state.locks now head) old seconds date new)
     (λ (old new : Service Server (Pair D)). IsMarked saved_bytes IsSaveable (λ j. IsCleanPair g j) (λ j blocks. IsKeptPair g j blocks) old new)
     (λ (old new : Service Server (Pair D)). IsCommitted (λ j. IsCleanPair g j) (λ j blocks. IsKeptPair g j blocks) old new)

@@ -1,7 +1,7 @@
 -- The run of the records of a server, whose journal may begin anew, from turn to turn and from life to life.
 use Rattle.std.specs.Prelude.{◌≡◌, ◌⊎◌, ℕ, Bool, true, IsTrue, List, [], ◌∷◌, ◌++◌, Option, Some, None}
 use Rattle.http_server.specs.declared.response.Response.{Response}
-use Rattle.dav_kept.specs.Kept.{Holding, IsRunOf, RecordsFollow, Snapshot, StaysInJournal, answer_step, committed, first_block, held_by, is_new, journal_of, preface_of, snapshot_of, with_batch, with_first, with_snapshot}
+use Rattle.dav_kept.specs.Kept.{Holding, IsRunOf, RecordsFollow, Snapshot, StaysInJournal, answer_step, committed, first_block, first_day, held_by, is_new, journal_of, preface_of, snapshot_of, with_batch, with_first, with_snapshot}
 use Rattle.dav_kept.specs.Life.{IsRunSince}
 use Rattle.dav_kept.specs.Records.{RecordView, RequestView, records_bytes}
 use Rattle.dav_kept.specs.declared.kept.Kept.{Kept}
@@ -71,12 +71,24 @@ pub record RunGoesOn {H J : Type 0} (answers : H → RequestView → Response �
 -- ---- from life to life
 
 -- A server that was opened: its state is that of the run of the records of these blocks, from a first one or from what is loaded of this
--- snapshot; and these are all that its journal has after the preface. A journal without a preface is new.
+-- snapshot; it answered nothing yet; and these are all that its journal has after the preface. A journal without a preface is new.
 pub record IsOpened {H J : Type 0} (answers : H → RequestView → Response → H → Type 0) (loads : H → List ℕ → H → Type 0)
     (has_read : J → List (List ℕ) → Type 0) (first : H) (start : Option Snapshot) (blocks : List (List ℕ)) (k : Kept H J) : Type 0 where
   pub run : IsRunOf (answer_step answers) loads first start blocks (held_by k)
+  pub empty : (held_by k).batch ≡ []
   pub read : has_read (journal_of k) (with_first (is_new k) (first_block (preface_of k) start) blocks)
   pub none : is_new k ≡ true → (blocks ≡ []) × (start ≡ None)
+
+-- Nothing was kept yet: the journal has no block, or the first one alone, without a snapshot.
+abbrev pub IsFirstDay : Bool → Option Snapshot → List (List ℕ) → Type 0
+IsFirstDay is_new start blocks = (is_new ≡ true) ⊎ ((start ≡ None) × (blocks ≡ []))
+
+-- A server begins a run: it holds what is held on a first day, and that is the run of no records.
+pub record BeginsRun {S : Type 0} (answers : S → RequestView → Response → S → Type 0) (saved : S → List ℕ) (is_saveable : S → Type 0)
+    (first : S) (start : Option Snapshot) (blocks : List (List ℕ)) (now : Holding S) : Type 0 where
+  pub held : now ≡ first_day first
+  pub since : IsRunSince (answer_step answers) saved is_saveable first start blocks now
+  pub are : since.all.records ≡ []
 
 -- What a crash leaves of the journal of a server that keeps this snapshot and these blocks, whatever it does: these; or these and the
 -- batch, where that is committed; or the snapshot of what is held, where the journal begins anew.

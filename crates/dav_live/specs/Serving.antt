@@ -1,19 +1,18 @@
 -- How a live server answers requests and hears its front, and what of that is kept.
-use Rattle.std.specs.Prelude.{◌≡◌, ◌≢◌, ◌≤◌, ◌⊎◌, ℕ, List, [], ◌∷◌, ◌++◌, Option, Some, None, codes, max, min}
+use Rattle.std.specs.Prelude.{◌≡◌, ◌≢◌, ◌≤◌, ◌⊎◌, ℕ, List, [], ◌∷◌, ◌++◌, Option, Some, None, codes}
 use Rattle.http_server.specs.declared.response.Response.{Response}
 use Rattle.http_server.specs.Response.{IsResponse, fields_of}
 use Rattle.httpdate.specs.Date.{date_text, unix_secs}
 use Rattle.httpdate.specs.declared.date.HttpDate.{HttpDate}
 use Rattle.dav_access.specs.Users.{ListsUsers}
 use Rattle.dav_access.specs.declared.error.UsersError.{UsersError}
-use Rattle.dav_core.specs.World.{last_moment}
 use Rattle.dav_kept.specs.Kept.{Holding, IsAnswerOf, held_by}
 use Rattle.dav_kept.specs.Records.{RequestView}
 use Rattle.dav_kept.specs.declared.handler.Effect.{Effect}
 use Rattle.dav_kept.specs.declared.kept.Kept.{Kept}
 use Rattle.dav_server.specs.Head.{IsHead, Request}
 use Rattle.dav_wire.specs.declared.answer.Asked.{Asked}
-use Rattle.dav_live.specs.Admission.{AdmissionView, IsRequestOf, IsTurnedAway, IsUnlisted, refusal_fields, status_of, with_random}
+use Rattle.dav_live.specs.Admission.{AdmissionView, IsRequestOf, IsTurnedAway, IsUnlisted, after_clocks, refusal_fields, status_of, with_random}
 use Rattle.dav_live.specs.Runs.{Commits, GoesOn, Saves, StaysKept}
 use Rattle.dav_live.specs.declared.admission.Reason.{Reason}
 use Rattle.dav_live.specs.declared.service.Service.{Service}
@@ -109,12 +108,11 @@ pub data IsEnded {S : Type 0} (answers : S → RequestView → Response → S �
   stuck : (head : List ℕ) (sent : Response) → ends old.state moment (Some head) → IsRun answers old (own_request moment head) sent new
       → sent.status ≢ 204 → IsEnded answers ends moment old new
 
--- A moment passes; one before the last one doesn't, since a clock that goes back stands still. Where it is later, locks end whose time has
--- passed by then.
+-- The clocks of the front are heard. Where the moment is later then, locks end whose time has passed by then.
 pub record IsPassed {H J : Type 0} (answers : H → RequestView → Response → H → Type 0) (is_clean : J → Type 0)
-    (kept : J → List (List ℕ) → Type 0) (ends : H → ℕ → Option (List ℕ) → Type 0) (old : Service H J) (seconds : ℕ) (new : Service H J) : Type 0 where
-  pub moment : admission_of new ≡ record (admission_of old) { moment = max (admission_of old).moment (min seconds last_moment) }
-  pub ended : ((admission_of new ≡ admission_of old) × (kept_of new ≡ kept_of old))
+    (kept : J → List (List ℕ) → Type 0) (ends : H → ℕ → Option (List ℕ) → Type 0) (old : Service H J) (seconds date : ℕ) (new : Service H J) : Type 0 where
+  pub clocks : admission_of new ≡ after_clocks (admission_of old) seconds date
+  pub ended : (((admission_of new).moment ≡ (admission_of old).moment) × (kept_of new ≡ kept_of old))
       ⊎ ((mid : Holding H) × EndsLocks answers ends (admission_of new).moment (held_of old) mid
       × IsEnded answers ends (admission_of new).moment mid (held_of new))
   pub goes_on : GoesOn answers is_clean kept (kept_of old) (kept_of new)

@@ -5,6 +5,7 @@ ghost use Rattle.dav_core.specs.declared.errors.DavError.TheVariants.{IllegalPat
 ghost use Rattle.dav_live.specs.Admission.{HasManySlashes, IsOutside, IsTokenFor, refusal_fields, slashes_in, status_of};
 ghost use Rattle.dav_live.specs.declared.admission.RefusedRequest.{RefusedRequest as RefusedValue};
 
+use crate::clock::moment_after;
 use crate::hosts::is_for;
 use crate::rejection::{may_be_long, rejection_of};
 use crate::settings::Settings;
@@ -91,6 +92,8 @@ pub struct Admission {
     settings: Settings,
     users: Option<Users>,
     moment: u64,
+    /// The seconds that the front's steady clock told last; none before its first report.
+    seconds: Option<u64>,
     random: [u8; 16],
 }
 
@@ -107,6 +110,7 @@ impl Model for Admission {
       lock_time = a.settings.lock_time;
       users = a.users;
       moment = a.moment;
+      seconds = a.seconds;
       random = a.random;
     } };
 
@@ -178,10 +182,11 @@ fn refused(reason: Reason, user: String) -> Decision
 }
 
 impl Admission {
-    ghost use Rattle.std.specs.Prelude.{◌≡◌, ◌≢◌, ◌≤◌, ◌<◌, ◌↔◌, ℕ, List, [], Some, IfOk, IfSome, IsFalse, IsTrue, MatchOption, map, min, max, option_map, replicate, string_bytes};
+    ghost use Rattle.std.specs.Prelude.{◌≡◌, ◌≢◌, ◌≤◌, ◌<◌, ◌↔◌, ℕ, List, [], Some, None, IfOk, IfSome, IsFalse, IsTrue, MatchOption, map, min, option_map, replicate, string_bytes};
+    ghost use Rattle.std.specs.Option.{is_some};
     ghost use Rattle.dav_access.specs.Users.{IsName, ListsUsers};
     ghost use Rattle.dav_core.specs.World.{last_moment};
-    ghost use Rattle.dav_live.specs.Admission.{HasManySlashes, IsDecision, IsLetIn, IsOutside, IsRequestOf, IsUnlisted, TellsSafe, request_in, with_random};
+    ghost use Rattle.dav_live.specs.Admission.{HasManySlashes, IsDecision, IsLetIn, IsOutside, IsRequestOf, IsUnlisted, TellsSafe, after_clocks, request_in, with_random};
 
     /// What a server with these settings and users goes by at a moment, at most the end of the year 9999.
     pub fn new(alloc: Global, settings: Settings, users: Option<Users>, moment: u64) -> Admission
@@ -191,6 +196,7 @@ impl Admission {
           lock_time = settings.lock_time;
           users = users;
           moment = min moment last_moment;
+          seconds = None;
           random = replicate 16 0;
         } }
     {
@@ -199,6 +205,7 @@ impl Admission {
             settings,
             users,
             moment: moment.min(LAST_MOMENT),
+            seconds: None,
             random: [0; 16],
         }
     }
@@ -209,6 +216,13 @@ impl Admission {
         ensures date { result ≤ last_moment }
     {
         self.moment
+    }
+
+    /// Whether the front reported its clocks.
+    pub fn has_begun(&self) -> bool
+        ensures { result ≡ is_some self.now.seconds }
+    {
+        self.seconds.is_some()
     }
 
     /// What becomes of a request with this head and body, where tokens of so many numbers were given. Nothing changes.
@@ -323,20 +337,17 @@ impl Admission {
         }
     }
 
-    /// Takes a moment, in seconds since 1970. A clock that goes back stands still. Whether it went on.
-    pub fn hear_moment(&mut self, seconds: u64) -> bool
-        ensures moment { self.new ≡ record self.old {
-          moment = max self.old.moment (min seconds last_moment);
-        } }
+    /// Takes the front's clocks: the seconds of the steady one, and the date, in seconds since 1970. Whether the moment went on.
+    pub fn hear_clocks(&mut self, seconds: u64, date: u64) -> bool
+        ensures clocks { self.new ≡ after_clocks self.old seconds date }
         ensures later { IsTrue result ↔ (self.old.moment < self.new.moment) }
-        ensures still { IsFalse result → self.new ≡ self.old }
+        ensures still { IsFalse result → self.new.moment ≡ self.old.moment }
     {
-        let moment = seconds.min(LAST_MOMENT);
-        if moment <= self.moment {
-            return false;
-        }
+        let moment = moment_after(self.moment, self.seconds, seconds, date);
+        let is_later = self.moment < moment;
         self.moment = moment;
-        true
+        self.seconds = Some(seconds);
+        is_later
     }
 }
 

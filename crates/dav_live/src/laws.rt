@@ -1,5 +1,6 @@
 //! Laws of a live server.
-ghost use Rattle.dav_live.specs.Life.{RestartsChangeNothing, RestartsGoOn, RunsAreTheMachines};
+ghost use Rattle.dav_live.specs.Clock.{ClocksDontJump};
+ghost use Rattle.dav_live.specs.Life.{FirstDaysBegin, RestartsChangeNothing, RestartsGoOn, RunsAreTheMachines};
 ghost use Rattle.dav_live.specs.LifePromises.{LivesKeepPromises};
 ghost use Rattle.dav_live.specs.Tokens.{TokensDiffer};
 
@@ -8,6 +9,12 @@ use dav_kept::Keeps;
 /// Tokens of two numbers differ, whatever random bytes they are made of (RFC 4918, section 6.5).
 pub fn tokens_differ()
     ensures { TokensDiffer }
+{}
+
+/// A clock never goes back, and doesn't jump where the date does: a lock ends when its time has passed, but for a second a minute (RFC
+/// 4918, section 6.6).
+pub fn clocks_dont_jump()
+    ensures { ClocksDontJump }
 {}
 
 /// A start goes on with what was: two servers over the same snapshot and blocks, with the same batch, hold the same.
@@ -25,6 +32,11 @@ pub fn runs_are_the_machines()
 /// the numbers from 0 on has them, with no premise left (RFC 4918, sections 6 and 7).
 pub fn lives_keep_promises()
     ensures { LivesKeepPromises }
+{}
+
+/// A first day begins a run, that of no records: so it is with each start before anything is kept.
+pub fn first_days_begin<J: Keeps>()
+    ensures { FirstDaysBegin J.has_read }
 {}
 
 /// A start goes on with the run that was, whatever a crash left of its journal, and whenever: it ran all records but perhaps those

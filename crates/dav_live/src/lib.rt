@@ -6,6 +6,7 @@
 #![tactic(auto)]
 
 mod admission;
+mod clock;
 mod ends;
 mod fault;
 mod hosts;

@@ -37,7 +37,7 @@ fn push_word(line: &mut String, word: &[u8]) -> Result<(), AllocError>
 }
 
 // A moment as the internet writes it (RFC 3339, section 5.6); `-` where it has more digits than that can write.
-fn date_text(alloc: Global, moment: u64) -> Result<String, AllocError> {
+pub(crate) fn date_text(alloc: Global, moment: u64) -> Result<String, AllocError> {
     let Ok(seconds) = i64::try_from(moment) else {
         return String::from_str(alloc, "-");
     };

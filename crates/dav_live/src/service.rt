@@ -28,7 +28,7 @@ pub struct Service<H, J> {
 }
 
 impl<H: Ends + Drop, J: Keeps + Drop> Service<H, J> {
-    ghost use Rattle.std.specs.Prelude.{◌≡◌, ◌⊎◌, ◌<◌, ℕ, List, [], Option, IfOk, OnOk, length, map, min, replicate, string_bytes};
+    ghost use Rattle.std.specs.Prelude.{◌≡◌, ◌⊎◌, ◌<◌, ℕ, List, [], Option, None, IfOk, OnOk, length, map, min, replicate, string_bytes};
     ghost use Rattle.dav_core.specs.World.{last_moment};
     ghost use Rattle.dav_kept.specs.Kept.{Snapshot, answer_step, held_by, is_new, journal_of};
     ghost use Rattle.dav_kept.specs.Life.{IsRunSince};
@@ -56,6 +56,7 @@ impl<H: Ends + Drop, J: Keeps + Drop> Service<H, J> {
           lock_time = settings.lock_time;
           users = users;
           moment = min (held_of s).latest last_moment;
+          seconds = None;
           random = replicate 16 0;
         }) }
     {

@@ -18,7 +18,7 @@ pub record Carries {S : Type 0} (k : Keeping S) (R : S → S → Type 0) : Type 
   pub greeted : (a : S) (bytes : List ℕ) (b : S) → k.greeted a bytes b → R a b
   pub listed : (a : S) (bytes : List ℕ) (b : S) → k.listed a bytes b → R a b
   pub placed : (a : S) (address : List ℕ) (b : S) → k.placed a address b → R a b
-  pub passed : (a : S) (seconds : ℕ) (b : S) → k.passed a seconds b → R a b
+  pub passed : (a : S) (seconds date : ℕ) (b : S) → k.passed a seconds date b → R a b
   pub marked : (a b : S) → k.marked a b → R a b
   pub kept : (a b : S) → k.kept a b → R a b
 
@@ -45,7 +45,7 @@ module _ {S : Type 0} (k : Keeping S) (R : S → S → Type 0) (c : Carries k R)
 
   heard_carries : (config : TurnsConfig) (t : ReportView) (old new : Server S) (orders : List Order) → Heard k config t old new orders → R old.keeper new.keeper
   heard_carries config t old new orders h =
-      c.joined old.keeper h.ready new.keeper (c.passed old.keeper t.seconds h.ready h.passes) (does_carries config t (server old.slots h.ready) new orders h.does)
+      c.joined old.keeper h.ready new.keeper (c.passed old.keeper t.seconds t.date h.ready h.passes) (does_carries config t (server old.slots h.ready) new orders h.does)
 
   all_carries : (config : TurnsConfig) (ts : List ReportView) (old new : Server S) (orders : List Order) → HeardAll k config ts old new orders → R old.keeper new.keeper
   all_carries config [] old new orders (same, none) = subst (λ (s : Server S). R old.keeper s.keeper) (sym same) (c.same old.keeper)

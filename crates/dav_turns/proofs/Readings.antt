@@ -9,35 +9,37 @@ use Rattle.dav_turns.specs.Frames.{ReportView, IsHead, IsReport, BeginsWith, Has
 use Rattle.dav_turns.specs.Laws.{ReportsHaveOneReading}
 
 -- what two readings of a head agree on
-record SameHead (s k l m : ℕ) (r : List ℕ) (s' k' l' m' : ℕ) (r' : List ℕ) : Type 0 where
+record SameHead (s k l m d : ℕ) (r : List ℕ) (s' k' l' m' d' : ℕ) (r' : List ℕ) : Type 0 where
   slot : s ≡ s'
   kind : k ≡ k'
   len : l ≡ l'
   seconds : m ≡ m'
+  date : d ≡ d'
   rest : r ≡ r'
 
-one_head : (s k l m : ℕ) (r : List ℕ) (s' k' l' m' : ℕ) (r' : List ℕ) → IsHead s l m → IsHead s' l' m'
-    → head_bytes s k l m ++ r ≡ head_bytes s' k' l' m' ++ r' → SameHead s k l m r s' k' l' m' r'
-one_head s k l m r s' k' l' m' r' is is' e = record {
+one_head : (s k l m d : ℕ) (r : List ℕ) (s' k' l' m' d' : ℕ) (r' : List ℕ) → IsHead s l m d → IsHead s' l' m' d'
+    → head_bytes s k l m d ++ r ≡ head_bytes s' k' l' m' d' ++ r' → SameHead s k l m d r s' k' l' m' d' r'
+one_head s k l m d r s' k' l' m' d' r' is is' e = record {
   slot = sym (from_le_bytes-to_le_bytes_4 s is.slot_fits) ∙ ap (λ b. from_le_bytes w32 (take 4 b)) e ∙ from_le_bytes-to_le_bytes_4 s' is'.slot_fits;
   kind = ap (λ b. get_or b 4 0) e;
   len = sym (from_le_bytes-to_le_bytes_4 l is.len_fits) ∙ ap (λ b. from_le_bytes w32 (take 4 (drop 5 b))) e ∙ from_le_bytes-to_le_bytes_4 l' is'.len_fits;
   seconds = sym (from_le_bytes-to_le_bytes_8 m is.seconds_fit) ∙ ap (λ b. from_le_bytes w64 (take 8 (drop 9 b))) e ∙ from_le_bytes-to_le_bytes_8 m' is'.seconds_fit;
-  rest = ap (drop 17) e;
+  date = sym (from_le_bytes-to_le_bytes_8 d is.date_fits) ∙ ap (λ b. from_le_bytes w64 (take 8 (drop 17 b))) e ∙ from_le_bytes-to_le_bytes_8 d' is'.date_fits;
+  rest = ap (drop 25) e;
 }
 
 -- a report begins with its head
 front : (bytes : List ℕ) (t : ReportView) (x : BeginsWith bytes t)
-    → bytes ≡ head_bytes t.slot t.kind (length t.bytes) t.seconds ++ (t.bytes ++ x.more)
-front bytes t x = x.bytes_are ∙ append_assoc (head_bytes t.slot t.kind (length t.bytes) t.seconds) t.bytes x.more
+    → bytes ≡ head_bytes t.slot t.kind (length t.bytes) t.seconds t.date ++ (t.bytes ++ x.more)
+front bytes t x = x.bytes_are ∙ append_assoc (head_bytes t.slot t.kind (length t.bytes) t.seconds t.date) t.bytes x.more
 
-long : (bytes : List ℕ) (t : ReportView) (x : BeginsWith bytes t) → 17 + length t.bytes ≤ length bytes
+long : (bytes : List ℕ) (t : ReportView) (x : BeginsWith bytes t) → 25 + length t.bytes ≤ length bytes
 long bytes t x =
-    omega (arith, ap length x.bytes_are, length-append (report_bytes t) x.more, length-append (head_bytes t.slot t.kind (length t.bytes) t.seconds) t.bytes)
+    omega (arith, ap length x.bytes_are, length-append (report_bytes t) x.more, length-append (head_bytes t.slot t.kind (length t.bytes) t.seconds t.date) t.bytes)
 
 same_len : (bytes : List ℕ) (t : ReportView) (len : ℕ) (x : BeginsWith bytes t) → HasHead bytes len → len ≡ length t.bytes
 same_len bytes t len x h =
-    (one_head _ _ _ _ _ _ _ _ _ _ h.head x.is.head (sym h.bytes_are ∙ front bytes t x)).len
+    (one_head _ _ _ _ _ _ _ _ _ _ _ _ h.head x.is.head (sym h.bytes_are ∙ front bytes t x)).len
 
 pub whole : (bytes : List ℕ) (t : ReportView) → BeginsWith bytes t → IsPart bytes → ⊥
 whole bytes t x (inl short) = omega (arith, long bytes t x)
@@ -48,24 +50,24 @@ few bytes t x h = omega (arith, x.is.few, same_len bytes t h.0 x h.1, h.2)
 
 pub part : (bytes : List ℕ) → IsPart bytes → IsTooLong bytes → ⊥
 part bytes (inl short) h =
-    omega (arith, ap length h.1.bytes_are, length-append (head_bytes h.1.slot h.1.kind h.0 h.1.seconds) h.1.rest)
+    omega (arith, ap length h.1.bytes_are, length-append (head_bytes h.1.slot h.1.kind h.0 h.1.seconds h.1.date) h.1.rest)
 part bytes (inr p) h =
-    omega (arith, (one_head _ _ _ _ _ _ _ _ _ _ p.1.head h.1.head (sym p.1.bytes_are ∙ h.1.bytes_are)).len, p.2, h.2)
+    omega (arith, (one_head _ _ _ _ _ _ _ _ _ _ _ _ p.1.head h.1.head (sym p.1.bytes_are ∙ h.1.bytes_are)).len, p.2, h.2)
 
-same_report : (t u : ReportView) → t.slot ≡ u.slot → t.kind ≡ u.kind → t.seconds ≡ u.seconds → t.bytes ≡ u.bytes → t ≡ u
-same_report t u a b c d = λ i. record { slot = a i; kind = b i; seconds = c i; bytes = d i }
+same_report : (t u : ReportView) → t.slot ≡ u.slot → t.kind ≡ u.kind → t.seconds ≡ u.seconds → t.date ≡ u.date → t.bytes ≡ u.bytes → t ≡ u
+same_report t u a b c d e = λ i. record { slot = a i; kind = b i; seconds = c i; date = d i; bytes = e i }
 
 -- two reports that begin the same bytes are one
 one_report : (bytes : List ℕ) (t u : ReportView) (x : BeginsWith bytes t) (y : BeginsWith bytes u) → (t ≡ u) × (x.more ≡ y.more)
 one_report bytes t u x y =
-    let h = one_head _ _ _ _ _ _ _ _ _ _ x.is.head y.is.head (sym (front bytes t x) ∙ front bytes u y) in
+    let h = one_head _ _ _ _ _ _ _ _ _ _ _ _ x.is.head y.is.head (sym (front bytes t x) ∙ front bytes u y) in
     let seam : (n : ℕ) → length t.bytes ≡ n → take n (t.bytes ++ x.more) ≡ t.bytes =
     λ n e. subst (λ k. take k (t.bytes ++ x.more) ≡ t.bytes) e (take-append_seam t.bytes x.more) in
     let told : t.bytes ≡ u.bytes =
     sym (seam (length u.bytes) h.len) ∙ ap (take (length u.bytes)) h.rest ∙ take-append_seam u.bytes y.more in
     let rest : (n : ℕ) → length t.bytes ≡ n → drop n (t.bytes ++ x.more) ≡ x.more =
     λ n e. subst (λ k. drop k (t.bytes ++ x.more) ≡ x.more) e (drop-append_seam t.bytes x.more) in (
-      same_report t u h.slot h.kind h.seconds told,
+      same_report t u h.slot h.kind h.seconds h.date told,
       sym (rest (length u.bytes) h.len) ∙ ap (drop (length u.bytes)) h.rest ∙ drop-append_seam u.bytes y.more,
     )
 

@@ -51,13 +51,13 @@ slot_open next c other = cond-false _ _ _ (ne_eqb next 2 other)
 
 -- one report more was read and heard
 pub reads_on : (bytes rest after : List ℕ) (ts : List ReportView) (t : ReportView) → ReadsReports bytes ts rest → BeginsWith rest t
-    → after ≡ take (length rest - (17 + length t.bytes)) (drop (17 + length t.bytes) rest) → ReadsReports bytes (ts ++ t ∷ []) after
+    → after ≡ take (length rest - (25 + length t.bytes)) (drop (25 + length t.bytes) rest) → ReadsReports bytes (ts ++ t ∷ []) after
 reads_on bytes rest after ts t reads begins is =
-    let front : length (report_bytes t) ≡ 17 + length t.bytes = omega arith in
+    let front : length (report_bytes t) ≡ 25 + length t.bytes = omega arith in
     let same : after ≡ begins.more =
     is
-    ∙ take_all (length rest - (17 + length t.bytes)) (drop (17 + length t.bytes) rest) (omega (arith, length-drop (17 + length t.bytes) rest))
-    ∙ ap (drop (17 + length t.bytes)) begins.bytes_are
+    ∙ take_all (length rest - (25 + length t.bytes)) (drop (25 + length t.bytes) rest) (omega (arith, length-drop (25 + length t.bytes) rest))
+    ∙ ap (drop (25 + length t.bytes)) begins.bytes_are
     ∙ subst (λ n. drop n (report_bytes t ++ begins.more) ≡ begins.more) front (drop-append_seam (report_bytes t) begins.more) in
     record {
       are = All-append IsReport ts (t ∷ []) reads.are (All-cons IsReport t [] begins.is (All-nil IsReport));

@@ -23,13 +23,13 @@ pub record Keeping (S : Type 0) : Type 1 where
   pub greeted : S → List ℕ → S → Type 0
   pub listed : S → List ℕ → S → Type 0
   pub placed : S → List ℕ → S → Type 0
-  pub passed : S → ℕ → S → Type 0
+  pub passed : S → ℕ → ℕ → S → Type 0
   pub marked : S → S → Type 0
   pub kept : S → S → Type 0
 
 -- what a keeper does, of these relations of its trait
 abbrev pub keeping : {S : Type 0} → (S → List ℕ → Option Rejection → S → Type 0) → (S → Asked → Response → S → Type 0) → (S → List ℕ → S → Type 0)
-    → (S → List ℕ → S → Type 0) → (S → List ℕ → S → Type 0) → (S → ℕ → S → Type 0)
+    → (S → List ℕ → S → Type 0) → (S → List ℕ → S → Type 0) → (S → ℕ → ℕ → S → Type 0)
     → (S → S → Type 0) → (S → S → Type 0) → Keeping S
 keeping judges answers greeted listed placed passed marked kept = record {
   judges = judges;
@@ -171,7 +171,7 @@ pub record GoesOn {S : Type 0} (k : Keeping S) (room slot : ℕ) (bytes : Option
 abbrev pub IsStill : {S : Type 0} → Server S → Server S → List Order → Type 0
 IsStill old new orders = (new.slots ≡ old.slots) × (orders ≡ [])
 
--- what a report does, after its moment has passed
+-- what a report does, after its clocks were heard
 pub data Does {S : Type 0} (k : Keeping S) (config : TurnsConfig) (t : ReportView)
     (old new : Server S) (orders : List Order) : Type 0 where
   hello : t.kind ≡ HELLO → k.greeted old.keeper t.bytes new.keeper → IsStill old new orders
@@ -194,11 +194,11 @@ pub data Does {S : Type 0} (k : Keeping S) (config : TurnsConfig) (t : ReportVie
   measured : t.kind ≡ ROOM → new.keeper ≡ old.keeper → IsStill old new orders
       → Does k config t old new orders
 
--- a report: its moment passes, and then it does what its kind says
+-- a report: its clocks are heard, and then it does what its kind says
 pub record Heard {S : Type 0} (k : Keeping S) (config : TurnsConfig) (t : ReportView)
     (old new : Server S) (orders : List Order) : Type 0 where
   pub ready : S
-  pub passes : k.passed old.keeper t.seconds ready
+  pub passes : k.passed old.keeper t.seconds t.date ready
   pub does : Does k config t (server old.slots ready) new orders
 
 -- reports, one after another, each once, and the orders for them in the same order

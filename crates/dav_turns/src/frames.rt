@@ -1,5 +1,6 @@
 //! The reports of the front and the orders to it. Numbers are little-endian.
-ghost use Rattle.std.specs.Prelude.{◌≡◌, ◌<◌, ◌^◌, ◌++◌, OnOk, length};
+ghost use Rattle.std.specs.Prelude.{◌≡◌, ◌<◌, ◌^◌, ◌++◌, ◌∷◌, [], OnOk, length};
+ghost use Rattle.std.specs.Int.{w32, w64, to_le_bytes};
 ghost use Rattle.dav_turns.specs.Frames.{Begins, IsHead, head_bytes, order_bytes};
 
 use std::alloc::AllocError;
@@ -29,18 +30,19 @@ pub const READ: u8 = 1;
 pub const CLOSE: u8 = 2;
 
 /// The bytes of a report before those that came.
-pub const HEAD: usize = 17;
+pub const HEAD: usize = 25;
 
 /// The most bytes that a report has.
 pub const MOST: usize = 65_536;
 
-/// A report: the slot of a connection, what happened there, when, in seconds since 1970, and the
-/// bytes that came.
+/// A report: the slot of a connection, what happened there, when, in the seconds of a clock that goes
+/// on steadily and is never set, and in seconds since 1970 by the date, and the bytes that came.
 #[derive(Clone, Copy, Debug)]
 pub struct Report<'r> {
     pub slot: u32,
     pub kind: u8,
     pub seconds: u64,
+    pub date: u64,
     pub bytes: &'r [u8],
 }
 
@@ -62,6 +64,7 @@ struct Head {
     kind: u8,
     len: usize,
     seconds: u64,
+    date: u64,
 }
 
 /// What the input begins with.
@@ -83,6 +86,7 @@ pub fn next_in(input: &[u8]) -> Next<'_>
         slot: head.slot,
         kind: head.kind,
         seconds: head.seconds,
+        date: head.date,
         bytes: &rest[..head.len],
     })
 }
@@ -90,22 +94,47 @@ pub fn next_in(input: &[u8]) -> Next<'_>
 // Reads the head of a report.
 fn head_in(bytes: &[u8]) -> Head
     requires { length bytes.now ≡ HEAD }
-    ensures bytes { bytes.now ≡ head_bytes result.slot result.kind result.len result.seconds }
-    ensures fits { IsHead result.slot result.len result.seconds }
+    ensures bytes { bytes.now ≡ head_bytes result.slot result.kind result.len result.seconds
+        result.date }
+    ensures fits { IsHead result.slot result.len result.seconds result.date }
+{
+    let (front, clocks) = bytes.split_at(9);
+    let (seconds, date) = clocks.split_at(8);
+    let (slot, kind, len) = front_in(front);
+    Head {
+        slot,
+        kind,
+        len,
+        seconds: number_in(seconds),
+        date: number_in(date),
+    }
+}
+
+// The slot, the kind and the length in the first bytes of a report.
+fn front_in(bytes: &[u8]) -> (u32, u8, usize)
+    requires { length bytes.now ≡ 9 }
+    ensures bytes { bytes.now
+        ≡ to_le_bytes w32 result.0 ++ result.1 ∷ [] ++ to_le_bytes w32 result.2 }
+    ensures fits { result.2 < 2 ^ 32 }
 {
     match bytes {
-        [a, b, c, d, kind, e, f, g, h, i, j, k, l, m, n, o, p] => Head {
-            slot: u32::from_le_bytes([*a, *b, *c, *d]),
-            kind: *kind,
-            len: u32::from_le_bytes([*e, *f, *g, *h]) as usize,
-            seconds: u64::from_le_bytes([*i, *j, *k, *l, *m, *n, *o, *p]),
-        },
-        _ => Head {
-            slot: 0,
-            kind: TICK,
-            len: 0,
-            seconds: 0,
-        },
+        [a, b, c, d, kind, e, f, g, h] => (
+            u32::from_le_bytes([*a, *b, *c, *d]),
+            *kind,
+            u32::from_le_bytes([*e, *f, *g, *h]) as usize,
+        ),
+        _ => (0, TICK, 0),
+    }
+}
+
+// The number of eight bytes.
+fn number_in(bytes: &[u8]) -> u64
+    requires { length bytes.now ≡ 8 }
+    ensures { bytes.now ≡ to_le_bytes w64 result }
+{
+    match bytes {
+        [a, b, c, d, e, f, g, h] => u64::from_le_bytes([*a, *b, *c, *d, *e, *f, *g, *h]),
+        _ => 0,
     }
 }
 

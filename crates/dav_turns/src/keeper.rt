@@ -49,8 +49,9 @@ pub trait Keeper: Answerer {
     // The requests that follow come from this address.
     ghost placed: { Self → List ℕ → Self → Type 0 };
 
-    // It is this moment, in seconds since 1970.
-    ghost passed: { Self → ℕ → Self → Type 0 };
+    // A clock that goes on steadily and is never set shows these seconds, and the date is this, in
+    // seconds since 1970.
+    ghost passed: { Self → ℕ → ℕ → Self → Type 0 };
 
     // A second passed.
     ghost marked: { Self → Self → Type 0 };
@@ -73,9 +74,10 @@ pub trait Keeper: Answerer {
     fn hear_address(&mut self, address: &[u8]) -> Result<(), Stop>
         ensures { OnOk result (placed self.old address.now self.new) };
 
-    /// Takes the moment of a report, in seconds since 1970.
-    fn hear_moment(&mut self, seconds: u64) -> Result<(), Stop>
-        ensures { OnOk result (passed self.old seconds self.new) };
+    /// Takes the clocks of a report: the seconds of one that goes on steadily and is never set, and the
+    /// date, in seconds since 1970.
+    fn hear_clocks(&mut self, seconds: u64, date: u64) -> Result<(), Stop>
+        ensures { OnOk result (passed self.old seconds date self.new) };
 
     /// Does what is to be done once a second.
     fn keep_mark(&mut self) -> Result<(), Stop>

@@ -96,7 +96,7 @@ impl Table {
         ensures config { self.new.config ≡ self.old.config }
         ensures counts { Counts self.new.config self.new.waiting self.new.slots.items }
     {
-        keeper.hear_moment(report.seconds)?;
+        keeper.hear_clocks(report.seconds, report.date)?;
         let bytes = report.bytes;
         match report.kind {
             HELLO => {

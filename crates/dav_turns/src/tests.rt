@@ -1,7 +1,7 @@
 //! Reports as rows of bytes, and turns as rows of text: reports, what the keeper was told, and the
 //! orders.
 use crate::frames::{
-    CLOSE, GONE, GOT, HELLO, Next, OPENED, READ, ROOM, SENT, TELL, TICK, USERS, next_in,
+    CLOSE, GONE, GOT, HELLO, Next, OPENED, READ, ROOM, Report, SENT, TELL, TICK, USERS, next_in,
 };
 use crate::{Keeper, TurnError, Turns, TurnsConfig};
 use dav_wire::{Answerer, Asked, Config, Rejection, Stop};
@@ -11,26 +11,27 @@ use std::alloc::{AllocError, Global};
 use std::cell::Cell;
 use std::test::Fail;
 
-/// Bytes as two digits each, by docs/SERVE.md: slot, kind, length, seconds, and the bytes that
-/// came.
+/// Bytes as two digits each, by docs/SERVE.md: slot, kind, length, the seconds of the steady clock, the
+/// date, and the bytes that came.
 const FRAMES: &str = "\
 # nothing, a part, a whole report, too much
  -> part
 02 -> part
-02000000 02 03000000 05000000000000 -> part
-02000000 02 03000000 0500000000000000 -> part
-02000000 02 03000000 0500000000000000 6162 -> part
-02000000 02 03000000 0500000000000000 616263 -> 2 2 5 abc
-02000000 02 03000000 0500000000000000 61626364 -> 2 2 5 abc
-ff010000 05 00000000 0001000000000000 -> 511 5 256 
-78563412 ff 00000000 ffffffffffffffff -> 305419896 255 18446744073709551615 
-00000000 02 00000100 0000000000000000 -> part
-00000000 02 01000100 0000000000000000 -> wrong
-00000000 02 000000ff 0000000000000000 61 -> wrong
-00000000 02 01000100 00000000000000 -> part
+02000000 02 03000000 0500000000000000 06000000000000 -> part
+02000000 02 03000000 0500000000000000 0600000000000000 -> part
+02000000 02 03000000 0500000000000000 0600000000000000 6162 -> part
+02000000 02 03000000 0500000000000000 0600000000000000 616263 -> 2 2 5 6 abc
+02000000 02 03000000 0500000000000000 0600000000000000 61626364 -> 2 2 5 6 abc
+ff010000 05 00000000 0001000000000000 0000010000000000 -> 511 5 256 65536 
+78563412 ff 00000000 ffffffffffffffff fffffffffffffffe -> 305419896 255 18446744073709551615 18374686479671623679 
+00000000 02 00000100 0000000000000000 0000000000000000 -> part
+00000000 02 01000100 0000000000000000 0000000000000000 -> wrong
+00000000 02 000000ff 0000000000000000 0000000000000000 61 -> wrong
+00000000 02 01000100 0000000000000000 00000000000000 -> part
 ";
 
-/// Reports are kind, slot, seconds and bytes. `^` is CRLF. The keeper says what it was told, and
+/// Reports are kind, slot, seconds and bytes; `8@1008` are the seconds 8 and the date 1008, which is
+/// 8 too without. `^` is CRLF. The keeper says what it was told, and
 /// the orders are slot, what is next, and bytes; after `!` it is why the turn failed, and nothing
 /// was written.
 const TURNS: &str = "\
@@ -38,6 +39,8 @@ const TURNS: &str = "\
  -> commit -> 
 hello 0 7 abc -> at 7, hello abc, commit -> 
 tick 0 8 -> at 8, mark, commit -> 
+tick 0 8@1008 -> at 8 of 1008, mark, commit -> 
+opened 2 5@3 ::1 ; gone 2 18446744073709551615@0 -> at 5 of 3, at 18446744073709551615 of 0, commit -> 2 read 
 users 0 8 anna:x -> at 8, users anna:x, commit -> 
 room 0 8 12345678 -> at 8, commit, room of 8 -> 
 tick 0 8 ; tick 0 9 -> at 8, mark, at 9, mark, commit -> 
@@ -172,7 +175,7 @@ impl Keeper for Noting {
 
     ghost placed = { λ old bytes new. Unit {0} };
 
-    ghost passed = { λ old seconds new. Unit {0} };
+    ghost passed = { λ old seconds date new. Unit {0} };
 
     ghost marked = { λ old new. Unit {0} };
 
@@ -198,8 +201,12 @@ impl Keeper for Noting {
         self.note("from ", address)
     }
 
-    fn hear_moment(&mut self, seconds: u64) -> Result<(), Stop> {
-        let text = format!(in self.alloc; "at {seconds}")?;
+    fn hear_clocks(&mut self, seconds: u64, date: u64) -> Result<(), Stop> {
+        let text = if seconds == date {
+            format!(in self.alloc; "at {seconds}")?
+        } else {
+            format!(in self.alloc; "at {seconds} of {date}")?
+        };
         self.note(text.as_str(), &[])
     }
 
@@ -265,12 +272,16 @@ fn add_report(out: &mut Vec<u8>, alloc: Global, text: &str) -> Result<(), AllocE
     let mut words = text.splitn(4, ' ');
     let kind = kind_of(words.next().unwrap_or(""));
     let slot = words.next().unwrap_or("").parse::<u32>().unwrap_or(0);
-    let seconds = words.next().unwrap_or("").parse::<u64>().unwrap_or(0);
+    let clocks = words.next().unwrap_or("");
+    let (seconds, date) = clocks.split_once('@').unwrap_or((clocks, clocks));
     let bytes = unescaped(alloc, words.next().unwrap_or(""))?;
     out.extend_from_slice(&slot.to_le_bytes())?;
     out.push(kind)?;
     out.extend_from_slice(&len_of(&bytes).to_le_bytes())?;
-    out.extend_from_slice(&seconds.to_le_bytes())?;
+    for clock in [seconds, date] {
+        let seconds = clock.parse::<u64>().unwrap_or(0);
+        out.extend_from_slice(&seconds.to_le_bytes())?;
+    }
     out.extend_from_slice(&bytes)
 }
 
@@ -382,7 +393,7 @@ fn turns_are_served(rt: HostRuntime) -> Result<(), Fail> {
         }
         count = count.saturating_add(1);
     }
-    assert!(rt; count == 42, "{count} rows");
+    assert!(rt; count == 44, "{count} rows");
     Ok(())
 }
 
@@ -414,7 +425,14 @@ fn frames_are_read(rt: HostRuntime) -> Result<(), Fail> {
                 Next::Wrong => String::from_str(alloc, "wrong")?,
                 Next::Whole(report) => {
                     let text = std::str::from_utf8(report.bytes).unwrap_or("?");
-                    format!(in alloc; "{} {} {} {text}", report.slot, report.kind, report.seconds)?
+                    let Report {
+                        slot,
+                        kind,
+                        seconds,
+                        date,
+                        ..
+                    } = report;
+                    format!(in alloc; "{slot} {kind} {seconds} {date} {text}")?
                 }
             };
             assert!(rt; found.as_str() == wanted, "{row}: {found}");

@@ -1,5 +1,6 @@
 //! What the front reports besides requests: users, addresses, moments.
 use crate::ends::Ends;
+use crate::line::date_text;
 use crate::service::answering::request_of;
 use crate::service::{Service, stop_of};
 use bytes::Bytes;
@@ -9,12 +10,15 @@ use dav_wire::Stop;
 use http::StatusCode;
 use http_server::Response;
 
+/// The seconds of a day.
+const DAY: u64 = 86_400;
+
 impl<H: Ends + Drop, J: Keeps + Drop> Service<H, J> {
     ghost use Rattle.std.specs.Prelude.{◌≡◌, ◌↔◌, List, ℕ, Some, IfOk, IsFalse, IsTrue, OnOk};
     ghost use Rattle.http_server.specs.declared.response.Response.{Response as Sent};
     ghost use Rattle.dav_kept.specs.Kept.{Holding};
     ghost use Rattle.dav_live.specs.Runs.{GoesOn};
-    ghost use Rattle.dav_live.specs.Serving.{EndsLocks, IsEnded, IsListed, IsMarked, IsRun, admission_of, held_of, kept_of, own_request};
+    ghost use Rattle.dav_live.specs.Serving.{EndsLocks, IsEnded, IsListed, IsMarked, IsRun, StaysAll, admission_of, held_of, kept_of, own_request};
 
     // Ends the first lock whose time has passed, by a request of the server's own. False where there is none, where there is no
     // room on the disk, and where the request isn't answered 204 (RFC 4918, section 9.11).
@@ -51,6 +55,23 @@ impl<H: Ends + Drop, J: Keeps + Drop> Service<H, J> {
         let mut response = Response::new(self.alloc);
         self.change(&request, &mut response)?;
         Ok(response.status == StatusCode::NO_CONTENT)
+    }
+
+    // Tells who runs the server where it begins at a date that is more than a day before the last moment of its state: it goes on
+    // from that moment.
+    fn look_at_date(&mut self, date: u64) -> Result<(), Stop>
+        ensures { OnOk result (StaysAll self.old self.new) }
+    {
+        let moment = self.admission.moment();
+        if self.admission.has_begun() || date.saturating_add(DAY) >= moment {
+            return Ok(());
+        }
+        let now = date_text(self.alloc, date)?;
+        let last = date_text(self.alloc, moment)?;
+        let notice = format!(in self.alloc;
+            "clock: the date is {now}, and the state was changed at {last}: its clock goes on from there"
+        )?;
+        Ok(self.told.notice(notice.as_str())?)
     }
 
     // Ends each lock whose time has passed.
@@ -101,7 +122,8 @@ impl<H: Ends + Drop, J: Keeps + Drop> Keeper for Service<H, J> {
 
     ghost placed = { λ old address new. StaysAll old new };
 
-    ghost passed = { λ old seconds new. IsPassed H.answers J.is_clean J.kept H.ends old seconds new };
+    ghost passed = { λ old seconds date new. IsPassed H.answers J.is_clean J.kept H.ends old seconds
+        date new };
 
     ghost marked = { λ old new. IsMarked H.saved H.is_saveable J.is_clean J.kept old new };
 
@@ -119,9 +141,10 @@ impl<H: Ends + Drop, J: Keeps + Drop> Keeper for Service<H, J> {
         Ok(self.told.hear_address(address)?)
     }
 
-    // Ends the locks whose time has passed. A clock that goes back stands still.
-    fn hear_moment(&mut self, seconds: u64) -> Result<(), Stop> {
-        if self.admission.hear_moment(seconds) {
+    // Ends the locks whose time has passed.
+    fn hear_clocks(&mut self, seconds: u64, date: u64) -> Result<(), Stop> {
+        self.look_at_date(date)?;
+        if self.admission.hear_clocks(seconds, date) {
             self.end_locks()
         } else {
             Ok(())

@@ -5,7 +5,7 @@ use Rattle.dav_turns.proofs.frames.next_in.Goals as goal
 pub returns-then-head-gt-MOST : goal.returns-then-head-gt-MOST
 returns-then-head-gt-MOST c = (
   c.head_in-head.result.len,
-  has_head c.args.input.now c.in-Some.head.now _ _ _ _ c.in-Some.ensures.lookup.0.2 c.head_in-head.ensures.bytes c.head_in-head.ensures.fits,
+  has_head c.args.input.now c.in-Some.head.now _ _ _ _ _ c.in-Some.ensures.lookup.0.2 c.head_in-head.ensures.bytes c.head_in-head.ensures.fits,
   c.if-head-gt-MOST.true,
 )
 
@@ -13,7 +13,7 @@ pub returns-then-rest-head : goal.returns-then-rest-head
 returns-then-rest-head c =
     inr (
       c.head_in-head.result.len,
-      has_head c.args.input.now c.in-Some.head.now _ _ _ _ c.in-Some.ensures.lookup.0.2 c.head_in-head.ensures.bytes c.head_in-head.ensures.fits,
+      has_head c.args.input.now c.in-Some.head.now _ _ _ _ _ c.in-Some.ensures.lookup.0.2 c.head_in-head.ensures.bytes c.head_in-head.ensures.fits,
       c.if-head-gt-MOST.false,
       omega (arith, c.if-rest-head.true, c.in-Some.ensures.lookup.0.1),
     )
