@@ -60,6 +60,6 @@ returns-in_ok-hear_users-in-6-clause-heard g c = (
 pub returns-in-7-clause-heard : goal.returns-in-7-clause-heard
 returns-in-7-clause-heard g c = (
   [],
-  record { ready = c.hear_moment.new.self; passes = c.in_ok-hear_moment.ensures; does = measured c.in-7.is refl (refl, refl) },
+  record { ready = c.hear_clocks.new.self; passes = c.in_ok-hear_clocks.ensures; does = measured c.in-7.is refl (refl, refl) },
   no_order c.args.orders.now.items,
 )
