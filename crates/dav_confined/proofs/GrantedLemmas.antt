@@ -1,20 +1,25 @@
 -- A request with leave keeps off the paths where its principal may not write.
-use Rattle.std.proofs.Common.{◌≡◌, ◌⊎◌, inl, inr, ℕ, Option, Bool, true, false, not, true≢false, List, [], ◌∷◌, All, map, Some, refl, sym, ap, subst, ◌∙◌, arith}
+use Rattle.std.proofs.Common.{◌≡◌, ◌⊎◌, inl, inr, ℕ, Option, Bool, true, false, not, true≢false, List, [], ◌∷◌, All, map, Some, Ok, refl, sym, ap, subst, ◌∙◌, arith}
 use Rattle.std.proofs.lemmas.List.Elements.{All-head, All-tail, All-cons}
-use Rattle.dav_core.specs.Path.{Path, names, is_at_or_under}
+use Rattle.dav_core.specs.Path.{Path, PathText, names, is_at_or_under}
 use Rattle.dav_core.specs.declared.method.DavMethod.{DavMethod}
-use Rattle.dav_core.specs.declared.method.DavMethod.TheVariants.{Put, Patch, MkCol, Delete, Move, PropPatch, Lock as LockMethod}
+use Rattle.dav_core.specs.declared.method.DavMethod.TheVariants.{Copy, Unlock, Put, Patch, MkCol, Delete, Move, PropPatch, Lock as LockMethod}
 use Rattle.dav_core.specs.Locks.{Lock}
 use Rattle.dav_engine.specs.Guard.{folder_of}
 use Rattle.dav_engine.specs.Sparing.{NoneUnder}
 use Rattle.dav_confined.specs.ConfinedSteps.{changes_target, KeepsOff, UnlocksLock}
+use Rattle.dav_server.specs.Head.{Request}
+use Rattle.dav_server.specs.Holder.{IsRequestTo}
 use Rattle.dav_server.specs.Machine.{Exchange, Settings}
+use Rattle.dav_server.specs.Method.{GivesServed}
 use Rattle.dav_server.specs.Run.{Turn}
+use Rattle.dav_server.proofs.HeadLemmas.{one_head}
+use Rattle.dav_server.proofs.MeansWorld.{one_method}
 use Rattle.dav_server.proofs.TargetLemmas.{target_is_path}
 use Rattle.dav_confined.specs.SeenSteps.{ReadsAt}
 use Rattle.dav_confined.proofs.StepsSeen.{steps_answer_alike}
 use Rattle.dav_confined.proofs.StepsConfined.{steps_leave_others, steps_leave_others_cut, steps_keep_other_locks, runs_leave_others}
-use Rattle.dav_confined.specs.Granted.{WritesStayInGrants, WritesStayInGrantsCut, LocksStayOutsideGrants, RuledTurn, IsKeptOut, RunsStayInGrants, OnlyReadsThere, AnswersStayInGrants}
+use Rattle.dav_confined.specs.Granted.{WritesStayInGrants, WritesStayInGrantsCut, LocksOfOthersStand, LocksStayOutsideGrants, RuledTurn, IsKeptOut, RunsStayInGrants, OnlyReadsThere, AnswersStayInGrants}
 use Rattle.dav_confined.specs.Leave.{needed, HasLeave, MayEnd}
 use Rattle.dav_access.specs.declared.grant.Right.TheVariants.{Admin, Write}
 use Rattle.dav_access.specs.Rules.{Rules, may_admin, may_read, may_write, has_right}
@@ -70,6 +75,26 @@ pub locks_stay_outside_grants : LocksStayOutsideGrants
 locks_stay_outside_grants rules s x old new ls ms reply h leave may out listed own step =
     steps_keep_other_locks (λ q. not (may_write rules x.principal q)) s x old new (Some ls) ms reply h (off_grants rules s x leave)
     (ap not out) listed (λ (unlocks : UnlocksLock s x h). true≢false (sym (ends_writes rules x.principal h (may h listed unlocks)) ∙ out)) own step
+
+module _ (s : Settings) (x : Exchange) (r : Request) (p : PathText) (to : IsRequestTo s x r Unlock p) where
+  -- a request that is an UNLOCK is no other
+  unlocks_alone : (r' : Request) (m : DavMethod) (p' : PathText) → IsRequestTo s x r' m p' → m ≡ Unlock
+  unlocks_alone r' m p' to' =
+      one_method r.method m Unlock (subst (λ (q : Request). GivesServed q.method (Ok m)) (one_head x.head r' r to'.head to.head) to'.method) to.method
+
+  keeps_off_all : KeepsOff (λ q. true) s x
+  keeps_off_all = record {
+    target = λ r' m p' to' changes. absurd (true≢false (sym changes ∙ ap changes_target (unlocks_alone r' m p' to')));
+    destination = λ r' m p' d to' is named. elim is [
+      | inl copy ↦ (let other : Copy ≡ Unlock = sym copy ∙ unlocks_alone r' m p' to' in cc)
+      | inr move ↦ (let other : Move ≡ Unlock = sym move ∙ unlocks_alone r' m p' to' in cc)
+    ];
+  }
+
+pub locks_of_others_stand : LocksOfOthersStand
+locks_of_others_stand rules s x r p old new ls ms reply h to may other none listed own step =
+    steps_keep_other_locks (λ q. true) s x old new (Some ls) ms reply h (keeps_off_all s x r p to) refl listed
+    (λ (unlocks : UnlocksLock s x h). elim (may h listed unlocks) [ inl mine ↦ other mine.0 | inr admin ↦ true≢false (sym admin ∙ none) ]) own step
 
 all_off : (covered : Path → Bool) (s : Settings) (ts : List RuledTurn) → All (IsKeptOut s covered) ts → All (λ (t : Turn). KeepsOff covered s t.asked) (map (λ (t : RuledTurn). t.turn) ts)
 all_off covered s [] all = λ k d small. absurd (omega (arith, small))

@@ -4,6 +4,7 @@ use Rattle.std.specs.Prelude.{◌≡◌, ◌≢◌, ◌≤◌, Bool, true, false
 use Rattle.dav_core.specs.Asking.{StoreState}
 use Rattle.dav_core.specs.Locks.{Lock}
 use Rattle.dav_core.specs.declared.method.DavMethod.{DavMethod}
+use Rattle.dav_core.specs.declared.method.DavMethod.TheVariants.{Unlock}
 use Rattle.dav_core.specs.Path.{Path, PathText, names}
 use Rattle.dav_core.specs.World.{IsWorld, last_moment}
 use Rattle.dav_engine.specs.Guard.{folder_of, IsListed, Stands}
@@ -17,7 +18,7 @@ use Rattle.dav_server.specs.Machine.{Exchange, Settings, Steps, StepCut}
 use Rattle.dav_server.specs.Run.{Turn, Runs}
 use Rattle.dav_server.specs.TagLaws.{MomentsAreDates, is_safe}
 use Rattle.dav_confined.specs.Leave.{HasLeave, MayUnlock}
-use Rattle.dav_access.specs.Rules.{Rules, may_read, may_write}
+use Rattle.dav_access.specs.Rules.{Rules, may_admin, may_read, may_write}
 
 -- The content at each path where the principal of a request may not write stays, and folders above it stay folders.
 abbrev pub WritesStayInGrants : Type 0
@@ -40,6 +41,13 @@ LocksStayOutsideGrants =
     (rules : Rules) (s : Settings) (x : Exchange) (old new : StoreState) (ls : List Lock) (ms : Locks) (reply : Reply) (h : Lock)
     → HasLeave rules s x → MayUnlock rules s x ls → may_write rules x.principal (folder_of h) ≡ false → IsListed h ls
     → x.token ≢ Some h.token → Steps s x old (Some ls) reply new ms → Stands h ms
+
+-- A lock of another stands after an UNLOCK by who may not end the locks of others at its path.
+abbrev pub LocksOfOthersStand : Type 0
+LocksOfOthersStand =
+    (rules : Rules) (s : Settings) (x : Exchange) (r : Request) (p : PathText) (old new : StoreState) (ls : List Lock) (ms : Locks) (reply : Reply) (h : Lock)
+    → IsRequestTo s x r Unlock p → MayUnlock rules s x ls → h.principal ≢ x.principal → may_admin rules x.principal (folder_of h) ≡ false
+    → IsListed h ls → x.token ≢ Some h.token → Steps s x old (Some ls) reply new ms → Stands h ms
 
 -- A turn, and the rules that were in force then.
 pub record RuledTurn : Type 0 where

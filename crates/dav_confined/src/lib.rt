@@ -4,3 +4,5 @@
 
 pub mod laws;
 pub mod leave;
+#[cfg(test)]
+mod tests;
