@@ -15,7 +15,7 @@ use Rattle.dav_access.specs.declared.fault.Stop.TheVariants.{Fault as AtFault, M
 use Rattle.dav_access.specs.declared.grant.Grant.{Grant}
 use Rattle.dav_access.specs.declared.grant.Right.{Right}
 use Rattle.dav_access.specs.declared.grant.Whom.{Whom}
-use Rattle.dav_access.specs.RulesText.{AllUsers, HasNoGroup, IsGoodLine, IsGroupIn, IsPathWord, IsPlain, IsRightWord, MeanAll, SaysGroup, has_taken_name, is_group, is_silent, is_user, lines_of}
+use Rattle.dav_access.specs.RulesText.{AllUsers, HasNoGroup, IsRulesLine, IsGroupIn, IsPathWord, IsPlain, IsRightWord, MeanAll, SaysGroup, has_taken_name, is_group, is_silent, is_user, lines_of}
 
 -- a word of a grant is no user's name, or means each user where there is no list of users
 pub data MeansNoUser (users : Option (List (List ℕ × List ℕ))) (word : List ℕ) : Type 0 where
@@ -74,21 +74,21 @@ pub data IsGroupFault (users : Option (List (List ℕ × List ℕ))) (before : L
       → string_bytes text ≡ word → IsGroupFault users before group members (NoUser text)
 
 -- the first fault of a line of a text, of whose lines these are before it
-pub data IsLineFault (users : Option (List (List ℕ × List ℕ))) (lines before : List (List (List ℕ)))
+pub data IsRulesFault (users : Option (List (List ℕ × List ℕ))) (lines before : List (List (List ℕ)))
     (line : List (List ℕ)) (fault : Fault) : Type 0 where
   group : {word : List ℕ} {members : List (List ℕ)} → SaysGroup line word members
-      → IsGroupFault users before word members fault → IsLineFault users lines before line fault
+      → IsGroupFault users before word members fault → IsRulesFault users lines before line fault
   grant : is_silent line ≡ false
       → ((word : List ℕ) (members : List (List ℕ)) → ¬ SaysGroup line word members)
-      → IsGrantFault users lines line fault → IsLineFault users lines before line fault
+      → IsGrantFault users lines line fault → IsRulesFault users lines before line fault
 
 -- The first faulty line of a text, among those that come after these: its number, from 1, and its fault.
 pub data HasFirstFault (users : Option (List (List ℕ × List ℕ))) (lines : List (List (List ℕ)))
     : List (List (List ℕ)) → List (List (List ℕ)) → ℕ → Fault → Type 0 where
   here : {before rest : List (List (List ℕ))} {line : List (List ℕ)} {fault : Fault}
-      → IsLineFault users lines before line fault → HasFirstFault users lines before (line ∷ rest) 1 fault
+      → IsRulesFault users lines before line fault → HasFirstFault users lines before (line ∷ rest) 1 fault
   later : {before rest : List (List (List ℕ))} {line : List (List ℕ)} {grants : List Grant} {number : ℕ}
-      {fault : Fault} → IsGoodLine users lines before line grants
+      {fault : Fault} → IsRulesLine users lines before line grants
       → HasFirstFault users lines (before ++ line ∷ []) rest number fault
       → HasFirstFault users lines before (line ∷ rest) (number + 1) fault
 

@@ -114,22 +114,22 @@ abbrev pub AllUsers : Option (List (List ℕ × List ℕ)) → List (List ℕ) �
 AllUsers users words = All (λ word. is_user users (percent_decode word) ≡ true) words
 
 -- a good line of a text, of whose lines these are before it; and the grants that it makes
-pub data IsGoodLine (users : Option (List (List ℕ × List ℕ))) (lines before : List (List (List ℕ)))
+pub data IsRulesLine (users : Option (List (List ℕ × List ℕ))) (lines before : List (List (List ℕ)))
     (line : List (List ℕ)) : List Grant → Type 0 where
-  silent : is_silent line ≡ true → IsGoodLine users lines before line []
+  silent : is_silent line ≡ true → IsRulesLine users lines before line []
   group : {word : List ℕ} {members : List (List ℕ)} → SaysGroup line word members
       → HasNoGroup before word → members ≢ [] → AllUsers users members
-      → IsGoodLine users lines before line []
+      → IsRulesLine users lines before line []
   grant : {grants : List Grant} → is_silent line ≡ false
       → ((word : List ℕ) (members : List (List ℕ)) → ¬ SaysGroup line word members)
-      → IsGrantLine users lines line grants → IsGoodLine users lines before line grants
+      → IsGrantLine users lines line grants → IsRulesLine users lines before line grants
 
 -- Lines of a text that come after these grant this, one after the other.
 pub data Grants (users : Option (List (List ℕ × List ℕ))) (lines : List (List (List ℕ)))
     : List (List (List ℕ)) → List (List (List ℕ)) → List Grant → Type 0 where
   ended : {before : List (List (List ℕ))} → Grants users lines before [] []
   next : {before rest : List (List (List ℕ))} {line : List (List ℕ)} {grants more : List Grant}
-      → IsGoodLine users lines before line grants → Grants users lines (before ++ line ∷ []) rest more
+      → IsRulesLine users lines before line grants → Grants users lines (before ++ line ∷ []) rest more
       → Grants users lines before (line ∷ rest) (grants ++ more)
 
 -- a text is that of these rules

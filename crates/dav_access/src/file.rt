@@ -136,8 +136,8 @@ struct Reader<'l, 't> {
 impl<'l, 't> Reader<'l, 't> {
     ghost use Rattle.std.specs.Prelude.{◌≡◌, ◌≢◌, ℕ, List, [], ◌∷◌, true, false, MatchResult, map};
     ghost use Rattle.std.specs.Option.{option_copied};
-    ghost use Rattle.dav_access.specs.RulesText.{AllUsers, Grants, HasNoGroup, IsGoodLine, IsGrantLine, MeanAll, Means, is_group};
-    ghost use Rattle.dav_access.specs.RulesFaults.{HasUnknown, IfFault, IsGrantFault, IsGrantsFault, IsGroupFault, IsLineFault, IsUnknown};
+    ghost use Rattle.dav_access.specs.RulesText.{AllUsers, Grants, HasNoGroup, IsRulesLine, IsGrantLine, MeanAll, Means, is_group};
+    ghost use Rattle.dav_access.specs.RulesFaults.{HasUnknown, IfFault, IsGrantFault, IsGrantsFault, IsGroupFault, IsRulesFault, IsUnknown};
 
     // Whom a word means that is no group.
     fn one_of(&self, word: &str) -> Result<Whom, Stop>
@@ -254,9 +254,9 @@ impl<'l, 't> Reader<'l, 't> {
     // What a line grants, where these are before it.
     fn read_line(&self, before: &[Line<'t>], line: &Line<'t>) -> Result<Vec<Grant>, Stop>
         ensures { MatchResult result
-            (λ grants. IsGoodLine (option_copied self.now.users) self.now.lines.now before.now line.now
+            (λ grants. IsRulesLine (option_copied self.now.users) self.now.lines.now before.now line.now
             grants.items)
-            (IfFault (IsLineFault (option_copied self.now.users) self.now.lines.now before.now line.now)) }
+            (IfFault (IsRulesFault (option_copied self.now.users) self.now.lines.now before.now line.now)) }
     {
         let Some((word, rest)) = line.words().split_first() else {
             return Ok(Vec::new(self.alloc));
