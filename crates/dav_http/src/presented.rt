@@ -1,5 +1,5 @@
 //! What a client is shown of a reply of the machine (RFC 9110, sections 13 and 14; RFC 4918, section 9.1; RFC 4331; RFC 8144).
-ghost use Rattle.std.specs.Prelude.{◌≡◌, ◌∷◌, ◌++◌, [], IfOk, OnOk, bytes_eq, codes, if◌then◌else◌};
+ghost use Rattle.std.specs.Prelude.{◌≡◌, ◌∷◌, ◌++◌, [], IfOk, OnOk, bytes_eq, codes, false, if◌then◌else◌};
 ghost use Rattle.std.specs.Bool.{Decides};
 ghost use Rattle.http_server.specs.Response.{IsBlank, fields_of};
 ghost use Rattle.dav_http.specs.Presented.{IsOfFile, IsShown, ShowsFile, applied, found, leaves_out, outcomes_body, patched, shown_tree, shown_body};

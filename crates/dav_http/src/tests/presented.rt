@@ -49,7 +49,7 @@ const SHOWN: &str = "\
 9 PROPFIND /p.HTML HTTP/1.1^Depth: 0^^ -> 207 ~text/html; charset=utf-8
 9 PROPFIND /a.txt HTTP/1.1^Depth: 0^^<propfind xmlns='DAV:'> -> 400 |
 9 PROPFIND /a.txt HTTP/1.1^Depth: 0^Prefer: return=minimal^^<propfind xmlns='DAV:'><prop><getcontenttype/><none/></prop></propfind> -> 207 return=minimal|~</D:propstat></D:response></D:multistatus>
-9 PROPFIND /a.txt HTTP/1.1^Depth: 0^Prefer: return=minimal^^<propfind xmlns='DAV:'><prop><none/></prop></propfind> -> 207 return=minimal|~<D:propstat><D:prop /><D:status>HTTP/1.1 200 OK</D:status></D:propstat>
+9 PROPFIND /a.txt HTTP/1.1^Depth: 0^Prefer: return=minimal^^<propfind xmlns='DAV:'><prop><none/></prop></propfind> -> 207 return=minimal|~<D:propstat><D:prop/><D:status>HTTP/1.1 200 OK</D:status></D:propstat>
 9 PROPFIND /a.txt HTTP/1.1^Depth: 0^Prefer: wait=1, Return=Minimal; x^^<propfind xmlns='DAV:'><prop><none/></prop></propfind> -> 207 return=minimal|~200 OK
 9 PROPFIND /a.txt HTTP/1.1^Depth: 0^Brief: t^^<propfind xmlns='DAV:'><prop><none/></prop></propfind> -> 207 |~200 OK
 9 PROPFIND /a.txt HTTP/1.1^Depth: 0^Prefer: return=representation^^<propfind xmlns='DAV:'><prop><none/></prop></propfind> -> 207 ~404 Not Found
