@@ -1,7 +1,7 @@
 use Rattle.std.proofs.Common.{◌≡◌, ◌+◌, ◌++◌, ◌∙◌, List, [], ap, subst, sym, take}
 use Rattle.std.specs.Option.{option_copied}
 use Rattle.dav_access.specs.declared.grant.Grant.{Grant}
-use Rattle.dav_access.specs.RulesText.{Grants, IsGoodLine}
+use Rattle.dav_access.specs.RulesText.{Grants, IsRulesLine}
 use Rattle.dav_access.proofs.RulesTextLemmas.{fault_after, fault_as, fault_at, fault_error, grants_done, grants_more}
 use Rattle.dav_access.proofs.file.Reader.grants.Goals as goal
 
