@@ -20,7 +20,7 @@ use Rattle.dav_access.specs.declared.grant.Right.{Right}
 use Rattle.dav_access.specs.declared.grant.Whom.{Whom}
 use Rattle.dav_access.specs.declared.grant.Whom.TheVariants.{User}
 use Rattle.dav_access.specs.RulesText.{AllUsers, Grants, IsGrantLine, ended, grant, has_taken_name, is_silent, HasNoGroup, IsRulesLine, IsGroupIn, IsPlain, IsRightWord, MeanAll, Means, SaysGroup, is_user, lines_of, more, next, none, user, users_among, words_of}
-use Rattle.dav_access.specs.RulesFaults.{HasFirstFault, IsAccessFault, IsGrantsFault, error_at, grant as fault_grant, HasUnknown, IfFault, IsGrantFault, IsGroupFault, IsRulesFault, IsLinesFault, IsNoText, IsPathFault, IsUnknown, IsWordsFault, NamesDoubleGroup, NamesNoRight, NamesNoUser, bad_path, double, here, later, no_right, unknown}
+use Rattle.dav_access.specs.RulesFaults.{HasFirstFault, IsAccessFault, IsGrantsFault, error_at, grant as fault_grant, HasUnknown, IfFault, IsGrantFault, IsGroupFault, IsRulesLineFault, IsLinesFault, IsNoText, IsPathFault, IsUnknown, IsWordsFault, NamesDoubleGroup, NamesNoRight, NamesNoUser, bad_path, double, here, later, no_right, unknown}
 
 -- a list around one of its items
 pub cut_at : {X : Type 0} (xs : List X) (place : ℕ) (x : X) → place < length xs → x ≡ get_or xs place x → xs ≡ take place xs ++ x ∷ drop (place + 1) xs
@@ -256,7 +256,7 @@ module _ (users : Option (List (List ℕ × List ℕ))) (lines : List (List (Lis
 
   -- a faulty line is the first
   pub fault_at : (fault : Fault) → ((n : ℕ) (f : Fault) → HasFirstFault users lines (take place lines) (drop place lines) n f → HasFirstFault users lines [] lines (place + n) f)
-      → IsRulesFault users lines (take place lines) line fault → HasFirstFault users lines [] lines (place + 1) fault
+      → IsRulesLineFault users lines (take place lines) line fault → HasFirstFault users lines [] lines (place + 1) fault
   fault_at fault so_far bad =
       so_far 1 fault (subst (λ (r : List (List (List ℕ))). HasFirstFault users lines (take place lines) r 1 fault) (sym (rest_is lines place line within is)) (here bad))
 
@@ -271,11 +271,11 @@ grants_done users lines place grants whole so_far =
 pub granted_line : {V : Type 0} (items : V → List Grant) (users : Option (List (List ℕ × List ℕ))) (lines before : List (List (List ℕ))) (line words : List (List ℕ)) (r : Result V Stop)
     → line ≡ words → is_silent line ≡ false → ((word : List ℕ) (members : List (List ℕ)) → ¬ SaysGroup line word members)
     → MatchResult r (λ v. IsGrantLine users lines words (items v)) (IfFault (IsGrantFault users lines words))
-    → MatchResult r (λ v. IsRulesLine users lines before line (items v)) (IfFault (IsRulesFault users lines before line))
+    → MatchResult r (λ v. IsRulesLine users lines before line (items v)) (IfFault (IsRulesLineFault users lines before line))
 granted_line items users lines before line words (Ok v) same loud says_none is =
     grant loud says_none (subst (λ (l : List (List ℕ)). IsGrantLine users lines l (items v)) (sym same) is)
 granted_line items users lines before line words (Err s) same loud says_none is =
-    fault_as (IsGrantFault users lines words) (IsRulesFault users lines before line) s
+    fault_as (IsGrantFault users lines words) (IsRulesLineFault users lines before line) s
     (λ f bad. fault_grant loud says_none (subst (λ (l : List (List ℕ)). IsGrantFault users lines l f) (sym same) bad)) is
 
 -- the first fault of the lines, as an error

@@ -35,13 +35,15 @@ includes See right = false
 
 -- whether a grant gives a principal a right at a path: at the grant's path or below it
 abbrev pub gives : Option (List ℕ) → Right → Path → Grant → Bool
-gives who right p g = is_for g.whom who && (includes g.right right && is_at_or_under p (names g.path))
+gives who right p g =
+    is_for g.whom who && (includes g.right right && is_at_or_under p (names g.path))
 
 -- whether a principal has a grant below a path, so that the path is on the way to it
 abbrev pub leads_to : Option (List ℕ) → Path → Grant → Bool
 leads_to who p g = is_for g.whom who && is_under (names g.path) p
 
--- whether a principal may see that something is at a path: it is granted, or is on the way to what is
+-- whether a principal may see that something is at a path: it is granted, or is on the way to what
+-- is
 abbrev pub may_see : Rules → Option (List ℕ) → Path → Bool
 may_see rules who p = list_any (gives who See p) rules || list_any (leads_to who p) rules
 
@@ -67,14 +69,16 @@ has_right rules who Admin p = may_admin rules who p
 -- Who has a right at a path has there each right that it includes.
 abbrev pub RightsAreOrdered : Type 0
 RightsAreOrdered =
-    (rules : Rules) (who : Option (List ℕ)) (right less : Right) (p : Path) → includes right less ≡ true
-    → has_right rules who right p ≡ true → has_right rules who less p ≡ true
+    (rules : Rules) (who : Option (List ℕ)) (right less : Right) (p : Path)
+    → includes right less ≡ true → has_right rules who right p ≡ true
+    → has_right rules who less p ≡ true
 
 -- Who may read, write or end locks at a path may do so at each path below it.
 abbrev pub RightsReachDown : Type 0
 RightsReachDown =
-    (rules : Rules) (who : Option (List ℕ)) (right : Right) (p q : Path) → includes right Read ≡ true
-    → is_at_or_under q p ≡ true → has_right rules who right p ≡ true → has_right rules who right q ≡ true
+    (rules : Rules) (who : Option (List ℕ)) (right : Right) (p q : Path)
+    → includes right Read ≡ true → is_at_or_under q p ≡ true
+    → has_right rules who right p ≡ true → has_right rules who right q ≡ true
 
 -- More grants allow more: who has a right by some of them has it by all.
 abbrev pub GrantsAdd : Type 0

@@ -15,26 +15,26 @@ use Rattle.dav_access.specs.declared.fault.Stop.TheVariants.{Fault as AtFault, M
 use Rattle.dav_access.specs.declared.grant.Grant.{Grant}
 use Rattle.dav_access.specs.declared.grant.Right.{Right}
 use Rattle.dav_access.specs.declared.grant.Whom.{Whom}
-use Rattle.dav_access.specs.RulesText.{AllUsers, HasNoGroup, IsRulesLine, IsGroupIn, IsPathWord, IsPlain, IsRightWord, MeanAll, SaysGroup, has_taken_name, is_group, is_silent, is_user, lines_of}
+use Rattle.dav_access.specs.RulesText.{AllUsers, Lines, UserList, Words, HasNoGroup, IsRulesLine, IsGroupIn, IsPathWord, IsPlain, IsRightWord, MeanAll, SaysGroup, has_taken_name, is_group, is_silent, is_user, lines_of}
 
 -- a word of a grant is no user's name, or means each user where there is no list of users
-pub data MeansNoUser (users : Option (List (List ℕ × List ℕ))) (word : List ℕ) : Type 0 where
+pub data MeansNoUser (users : UserList) (word : List ℕ) : Type 0 where
   unlisted : IsPlain word → is_user users (percent_decode word) ≡ false → MeansNoUser users word
   no_list : word ≡ codes "users" → users ≡ None → MeansNoUser users word
 
 -- why a word of a grant means nobody: there is no such user, or no such group
-abbrev pub IsUnknown : Option (List (List ℕ × List ℕ)) → List (List (List ℕ)) → List ℕ → Fault → Type 0
+abbrev pub IsUnknown : UserList → Lines → List ℕ → Fault → Type 0
 IsUnknown users lines word (NoUser text) = (string_bytes text ≡ word) × MeansNoUser users word
 IsUnknown users lines word (NoGroup text) =
     (string_bytes text ≡ word) × (is_group word ≡ true) × HasNoGroup lines word
 IsUnknown users lines word _ = ⊥
 
 -- why the first of these words that means nobody does
-pub record HasUnknown (users : Option (List (List ℕ × List ℕ))) (lines : List (List (List ℕ)))
-    (words : List (List ℕ)) (fault : Fault) : Type 0 where
-  pub front : List (List ℕ)
+pub record HasUnknown (users : UserList) (lines : Lines)
+    (words : Words) (fault : Fault) : Type 0 where
+  pub front : Words
   pub word : List ℕ
-  pub back : List (List ℕ)
+  pub back : Words
   pub whom : List Whom
   pub words_are : words ≡ front ++ word ∷ back
   pub mean : MeanAll users lines front whom
@@ -46,48 +46,54 @@ IsBadPath word error =
     ((error ≢ ParseMemory) × IsRefused word error) ⊎ ((error ≡ InvalidPath) × (word ≡ star))
 
 -- the first fault of a line that is to grant a right: the right, the path, and then who is named
-pub data IsGrantFault (users : Option (List (List ℕ × List ℕ))) (lines : List (List (List ℕ)))
-    (line : List (List ℕ)) : Fault → Type 0 where
-  no_right : {word : List ℕ} {words : List (List ℕ)} {text : _} → line ≡ word ∷ words
+pub data IsGrantFault (users : UserList) (lines : Lines)
+    (line : Words) : Fault → Type 0 where
+  no_right : {word : List ℕ} {words : Words} {text : _} → line ≡ word ∷ words
       → ((right : Right) → ¬ IsRightWord word right) → string_bytes text ≡ word
       → IsGrantFault users lines line (NoRight text)
   no_path : {word : List ℕ} {right : Right} → line ≡ word ∷ [] → IsRightWord word right
       → IsGrantFault users lines line NoPath
-  bad_path : {word path_word : List ℕ} {names : List (List ℕ)} {right : Right} {error : ParseError}
+  bad_path : {word path_word : List ℕ} {names : Words} {right : Right} {error : ParseError}
       → line ≡ word ∷ path_word ∷ names → IsRightWord word right → IsBadPath path_word error
       → IsGrantFault users lines line (BadPath error)
-  nobody : {word path_word : List ℕ} {right : Right} {path : PathText} → line ≡ word ∷ path_word ∷ []
+  nobody : {word path_word : List ℕ} {right : Right} {path : PathText}
+      → line ≡ word ∷ path_word ∷ []
       → IsRightWord word right → IsPathWord path_word path → IsGrantFault users lines line Nobody
-  unknown : {word path_word : List ℕ} {names : List (List ℕ)} {right : Right} {path : PathText} {fault : Fault}
-      → line ≡ word ∷ path_word ∷ names → IsRightWord word right → IsPathWord path_word path
+  unknown : {word path_word : List ℕ} {names : Words} {right : Right} {path : PathText}
+      {fault : Fault} → line ≡ word ∷ path_word ∷ names → IsRightWord word right
+      → IsPathWord path_word path
       → HasUnknown users lines names fault → IsGrantFault users lines line fault
 
--- the first fault of a line that says who is in a group: a line before it says so too, nobody is named,
--- or a word is no user's name
-pub data IsGroupFault (users : Option (List (List ℕ × List ℕ))) (before : List (List (List ℕ)))
-    (group : List ℕ) (members : List (List ℕ)) : Fault → Type 0 where
-  double : {others : List (List ℕ)} {text : _} → IsGroupIn before group others → string_bytes text ≡ group
+-- the first fault of a line that says who is in a group: a line before it says so too, nobody is
+-- named, or a word is no user's name
+pub data IsGroupFault (users : UserList) (before : Lines)
+    (group : List ℕ) (members : Words) : Fault → Type 0 where
+  double : {others : Words} {text : _} → IsGroupIn before group others → string_bytes text ≡ group
       → IsGroupFault users before group members (DoubleGroup text)
   nobody : HasNoGroup before group → members ≡ [] → IsGroupFault users before group members Nobody
-  unknown : (front back : List (List ℕ)) {word : List ℕ} {text : _} → HasNoGroup before group
-      → members ≡ front ++ word ∷ back → AllUsers users front → is_user users (percent_decode word) ≡ false
-      → string_bytes text ≡ word → IsGroupFault users before group members (NoUser text)
+  unknown : (front back : Words) {word : List ℕ} {text : _} → HasNoGroup before group
+      → members ≡ front ++ word ∷ back → AllUsers users front
+      → is_user users (percent_decode word) ≡ false → string_bytes text ≡ word
+      → IsGroupFault users before group members (NoUser text)
 
 -- the first fault of a line of a text, of whose lines these are before it
-pub data IsRulesFault (users : Option (List (List ℕ × List ℕ))) (lines before : List (List (List ℕ)))
-    (line : List (List ℕ)) (fault : Fault) : Type 0 where
-  group : {word : List ℕ} {members : List (List ℕ)} → SaysGroup line word members
-      → IsGroupFault users before word members fault → IsRulesFault users lines before line fault
+pub data IsRulesLineFault (users : UserList) (lines before : Lines)
+    (line : Words) (fault : Fault) : Type 0 where
+  group : {word : List ℕ} {members : Words} → SaysGroup line word members
+      → IsGroupFault users before word members fault
+      → IsRulesLineFault users lines before line fault
   grant : is_silent line ≡ false
-      → ((word : List ℕ) (members : List (List ℕ)) → ¬ SaysGroup line word members)
-      → IsGrantFault users lines line fault → IsRulesFault users lines before line fault
+      → ((word : List ℕ) (members : Words) → ¬ SaysGroup line word members)
+      → IsGrantFault users lines line fault → IsRulesLineFault users lines before line fault
 
--- The first faulty line of a text, among those that come after these: its number, from 1, and its fault.
-pub data HasFirstFault (users : Option (List (List ℕ × List ℕ))) (lines : List (List (List ℕ)))
-    : List (List (List ℕ)) → List (List (List ℕ)) → ℕ → Fault → Type 0 where
-  here : {before rest : List (List (List ℕ))} {line : List (List ℕ)} {fault : Fault}
-      → IsRulesFault users lines before line fault → HasFirstFault users lines before (line ∷ rest) 1 fault
-  later : {before rest : List (List (List ℕ))} {line : List (List ℕ)} {grants : List Grant} {number : ℕ}
+-- The first faulty line of a text, among those that come after these: its number, from 1, and its
+-- fault.
+pub data HasFirstFault (users : UserList) (lines : Lines)
+    : Lines → Lines → ℕ → Fault → Type 0 where
+  here : {before rest : Lines} {line : Words} {fault : Fault}
+      → IsRulesLineFault users lines before line fault
+      → HasFirstFault users lines before (line ∷ rest) 1 fault
+  later : {before rest : Lines} {line : Words} {grants : List Grant} {number : ℕ}
       {fault : Fault} → IsRulesLine users lines before line grants
       → HasFirstFault users lines (before ++ line ∷ []) rest number fault
       → HasFirstFault users lines before (line ∷ rest) (number + 1) fault
@@ -96,9 +102,9 @@ pub data HasFirstFault (users : Option (List (List ℕ × List ℕ))) (lines : L
 abbrev pub IsNoText : List ℕ → Type 0
 IsNoText text = ¬ All (All IsUtf8) (lines_of text)
 
--- Why there are no rules in a text: a user has a name that is taken; else a word isn't UTF-8; else a line
--- is at fault, of which this is the first. Memory may run out at any time.
-abbrev pub IsAccessFault : Option (List (List ℕ × List ℕ)) → List ℕ → AccessError → Type 0
+-- Why there are no rules in a text: a user has a name that is taken; else a word isn't UTF-8; else
+-- a line is at fault, of which this is the first. Memory may run out at any time.
+abbrev pub IsAccessFault : UserList → List ℕ → AccessError → Type 0
 IsAccessFault users text TakenName = has_taken_name users ≡ true
 IsAccessFault users text NotUtf8 = (has_taken_name users ≡ false) × IsNoText text
 IsAccessFault users text (Line number fault) =
@@ -139,7 +145,7 @@ NamesDoubleGroup word (DoubleGroup text) = string_bytes text ≡ word
 NamesDoubleGroup word _ = ⊥
 
 -- some of these words isn't UTF-8, or memory ran out
-abbrev pub IsWordsFault : List (List ℕ) → AccessError → Type 0
+abbrev pub IsWordsFault : Words → AccessError → Type 0
 IsWordsFault words NotUtf8 = ¬ All IsUtf8 words
 IsWordsFault words Memory = Unit {0}
 IsWordsFault words _ = ⊥
@@ -151,7 +157,7 @@ IsLinesFault text Memory = Unit {0}
 IsLinesFault text _ = ⊥
 
 -- a line of these is at fault, of which this is the first; or memory ran out
-abbrev pub IsGrantsFault : Option (List (List ℕ × List ℕ)) → List (List (List ℕ)) → AccessError → Type 0
+abbrev pub IsGrantsFault : UserList → Lines → AccessError → Type 0
 IsGrantsFault users lines (Line number fault) = HasFirstFault users lines [] lines number fault
 IsGrantsFault users lines Memory = Unit {0}
 IsGrantsFault users lines _ = ⊥

@@ -1,5 +1,5 @@
--- The text of the rules. A line grants a right at a path, or says who is in a group; one without words
--- and one whose first word begins with `#` say nothing.
+-- The text of the rules. A line grants a right at a path, or says who is in a group; one without
+-- words and one whose first word begins with `#` say nothing.
 use Rattle.std.specs.Prelude.{◌≡◌, ◌≢◌, ◌==◌, ◌||◌, ℕ, All, Bool, true, false, bytes_eq, List, [], ◌∷◌, ◌++◌, Contains, Option, Some, None, codes, map}
 use Rattle.std.specs.Char.{is_ascii_whitespace}
 use Rattle.std.specs.List.{filter, list_any, slice_split}
@@ -12,12 +12,24 @@ use Rattle.dav_access.specs.declared.grant.Right.TheVariants.{Read, Write, Admin
 use Rattle.dav_access.specs.declared.grant.Whom.{Whom}
 use Rattle.dav_access.specs.declared.grant.Whom.TheVariants.{Everybody, EachUser, User}
 
+-- the names and secrets of the users, where there is a list of them
+abbrev pub UserList : Type 0
+UserList = Option (List (List ℕ × List ℕ))
+
+-- the words of a line
+abbrev pub Words : Type 0
+Words = List (List ℕ)
+
+-- lines, each by its words
+abbrev pub Lines : Type 0
+Lines = List Words
+
 -- the words of a line: what is between white space
-abbrev pub words_of : List ℕ → List (List ℕ)
+abbrev pub words_of : List ℕ → Words
 words_of line = filter is_nonempty (slice_split is_ascii_whitespace line)
 
 -- the words of each line of a text
-abbrev pub lines_of : List ℕ → List (List (List ℕ))
+abbrev pub lines_of : List ℕ → Lines
 lines_of text = map words_of (slice_split (λ b. b == 10) text)
 
 -- whether a text begins with this byte
@@ -26,7 +38,7 @@ begins_with byte [] = false
 begins_with byte (b ∷ bs) = b == byte
 
 -- whether a line says nothing
-abbrev pub is_silent : List (List ℕ) → Bool
+abbrev pub is_silent : Words → Bool
 is_silent [] = true
 is_silent (word ∷ words) = begins_with 35 word
 
@@ -35,27 +47,27 @@ abbrev pub is_group : List ℕ → Bool
 is_group word = begins_with 64 word
 
 -- a line that says who is in a group: its name, `=`, and the users
-pub record SaysGroup (line : List (List ℕ)) (group : List ℕ) (members : List (List ℕ)) : Type 0 where
+pub record SaysGroup (line : Words) (group : List ℕ) (members : Words) : Type 0 where
   pub named : is_group group ≡ true
   pub line_is : line ≡ group ∷ codes "=" ∷ members
 
 -- some of these lines says who is in the group
-pub record IsGroupIn (lines : List (List (List ℕ))) (group : List ℕ) (members : List (List ℕ)) : Type 0 where
-  pub line : List (List ℕ)
+pub record IsGroupIn (lines : Lines) (group : List ℕ) (members : Words) : Type 0 where
+  pub line : Words
   pub there : Contains lines line
   pub says : SaysGroup line group members
 
 -- none of these lines says who is in the group
-abbrev pub HasNoGroup : List (List (List ℕ)) → List ℕ → Type 0
-HasNoGroup lines group = (members : List (List ℕ)) → ¬ IsGroupIn lines group members
+abbrev pub HasNoGroup : Lines → List ℕ → Type 0
+HasNoGroup lines group = (members : Words) → ¬ IsGroupIn lines group members
 
 -- whether a user of the list, if there is one, has this name
-abbrev pub is_user : Option (List (List ℕ × List ℕ)) → List ℕ → Bool
+abbrev pub is_user : UserList → List ℕ → Bool
 is_user None name = false
 is_user (Some users) name = list_any (λ u. bytes_eq u.0 name) users
 
 -- the users among these words, each of which is written as in a URL (RFC 3986, section 2.1)
-abbrev pub users_among : Option (List (List ℕ × List ℕ)) → List (List ℕ) → List Whom
+abbrev pub users_among : UserList → Words → List Whom
 users_among users words = map User (filter (is_user users) (map percent_decode words))
 
 -- a word that can only be the name of a user
@@ -65,20 +77,20 @@ pub record IsPlain (word : List ℕ) : Type 0 where
   pub no_group : is_group word ≡ false
 
 -- whom a word of a grant means, in a text of these lines
-pub data Means (users : Option (List (List ℕ × List ℕ))) (lines : List (List (List ℕ))) (word : List ℕ)
+pub data Means (users : UserList) (lines : Lines) (word : List ℕ)
     : List Whom → Type 0 where
   everybody : word ≡ codes "everybody" → Means users lines word (Everybody ∷ [])
   each_user : word ≡ codes "users" → users ≢ None → Means users lines word (EachUser ∷ [])
-  group : {members : List (List ℕ)} → IsGroupIn lines word members
+  group : {members : Words} → IsGroupIn lines word members
       → Means users lines word (users_among users members)
   user : IsPlain word → is_user users (percent_decode word) ≡ true
       → Means users lines word (User (percent_decode word) ∷ [])
 
 -- whom words mean, one after the other
-pub data MeanAll (users : Option (List (List ℕ × List ℕ))) (lines : List (List (List ℕ)))
-    : List (List ℕ) → List Whom → Type 0 where
+pub data MeanAll (users : UserList) (lines : Lines)
+    : Words → List Whom → Type 0 where
   none : MeanAll users lines [] []
-  more : {word : List ℕ} {words : List (List ℕ)} {whom rest : List Whom} → Means users lines word whom
+  more : {word : List ℕ} {words : Words} {whom rest : List Whom} → Means users lines word whom
       → MeanAll users lines words rest → MeanAll users lines (word ∷ words) (whom ++ rest)
 
 -- the word of a right that a line may grant
@@ -94,11 +106,11 @@ pub record IsPathWord (word : List ℕ) (path : PathText) : Type 0 where
   pub no_star : path.bytes ≢ star
 
 -- a line that grants a right at a path, and the grants that it makes
-pub record IsGrantLine (users : Option (List (List ℕ × List ℕ))) (lines : List (List (List ℕ)))
-    (line : List (List ℕ)) (grants : List Grant) : Type 0 where
+pub record IsGrantLine (users : UserList) (lines : Lines)
+    (line : Words) (grants : List Grant) : Type 0 where
   pub right_word : List ℕ
   pub path_word : List ℕ
-  pub names : List (List ℕ)
+  pub names : Words
   pub right : Right
   pub path : PathText
   pub whom : List Whom
@@ -110,32 +122,33 @@ pub record IsGrantLine (users : Option (List (List ℕ × List ℕ))) (lines : L
   pub grants_are : grants ≡ map (λ w. record { whom = w; right = right; path = path }) whom
 
 -- each of these words names a user
-abbrev pub AllUsers : Option (List (List ℕ × List ℕ)) → List (List ℕ) → Type 0
+abbrev pub AllUsers : UserList → Words → Type 0
 AllUsers users words = All (λ word. is_user users (percent_decode word) ≡ true) words
 
 -- a good line of a text, of whose lines these are before it; and the grants that it makes
-pub data IsRulesLine (users : Option (List (List ℕ × List ℕ))) (lines before : List (List (List ℕ)))
-    (line : List (List ℕ)) : List Grant → Type 0 where
+pub data IsRulesLine (users : UserList) (lines before : Lines)
+    (line : Words) : List Grant → Type 0 where
   silent : is_silent line ≡ true → IsRulesLine users lines before line []
-  group : {word : List ℕ} {members : List (List ℕ)} → SaysGroup line word members
+  group : {word : List ℕ} {members : Words} → SaysGroup line word members
       → HasNoGroup before word → members ≢ [] → AllUsers users members
       → IsRulesLine users lines before line []
   grant : {grants : List Grant} → is_silent line ≡ false
-      → ((word : List ℕ) (members : List (List ℕ)) → ¬ SaysGroup line word members)
+      → ((word : List ℕ) (members : Words) → ¬ SaysGroup line word members)
       → IsGrantLine users lines line grants → IsRulesLine users lines before line grants
 
 -- Lines of a text that come after these grant this, one after the other.
-pub data Grants (users : Option (List (List ℕ × List ℕ))) (lines : List (List (List ℕ)))
-    : List (List (List ℕ)) → List (List (List ℕ)) → List Grant → Type 0 where
-  ended : {before : List (List (List ℕ))} → Grants users lines before [] []
-  next : {before rest : List (List (List ℕ))} {line : List (List ℕ)} {grants more : List Grant}
-      → IsRulesLine users lines before line grants → Grants users lines (before ++ line ∷ []) rest more
+pub data Grants (users : UserList) (lines : Lines)
+    : Lines → Lines → List Grant → Type 0 where
+  ended : {before : Lines} → Grants users lines before [] []
+  next : {before rest : Lines} {line : Words} {grants more : List Grant}
+      → IsRulesLine users lines before line grants
+      → Grants users lines (before ++ line ∷ []) rest more
       → Grants users lines before (line ∷ rest) (grants ++ more)
 
 -- a text is that of these rules
-abbrev pub AreRulesOf : Option (List (List ℕ × List ℕ)) → List ℕ → List Grant → Type 0
+abbrev pub AreRulesOf : UserList → List ℕ → List Grant → Type 0
 AreRulesOf users text rules = Grants users (lines_of text) [] (lines_of text) rules
 
 -- a name of the list, if there is one, that means more than one user in a text of rules
-abbrev pub has_taken_name : Option (List (List ℕ × List ℕ)) → Bool
+abbrev pub has_taken_name : UserList → Bool
 has_taken_name users = is_user users (codes "everybody") || is_user users (codes "users")

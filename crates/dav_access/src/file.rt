@@ -137,7 +137,7 @@ impl<'l, 't> Reader<'l, 't> {
     ghost use Rattle.std.specs.Prelude.{◌≡◌, ◌≢◌, ℕ, List, [], ◌∷◌, true, false, MatchResult, map};
     ghost use Rattle.std.specs.Option.{option_copied};
     ghost use Rattle.dav_access.specs.RulesText.{AllUsers, Grants, HasNoGroup, IsRulesLine, IsGrantLine, MeanAll, Means, is_group};
-    ghost use Rattle.dav_access.specs.RulesFaults.{HasUnknown, IfFault, IsGrantFault, IsGrantsFault, IsGroupFault, IsRulesFault, IsUnknown};
+    ghost use Rattle.dav_access.specs.RulesFaults.{HasUnknown, IfFault, IsGrantFault, IsGrantsFault, IsGroupFault, IsRulesLineFault, IsUnknown};
 
     // Whom a word means that is no group.
     fn one_of(&self, word: &str) -> Result<Whom, Stop>
@@ -254,9 +254,10 @@ impl<'l, 't> Reader<'l, 't> {
     // What a line grants, where these are before it.
     fn read_line(&self, before: &[Line<'t>], line: &Line<'t>) -> Result<Vec<Grant>, Stop>
         ensures { MatchResult result
-            (λ grants. IsRulesLine (option_copied self.now.users) self.now.lines.now before.now line.now
-            grants.items)
-            (IfFault (IsRulesFault (option_copied self.now.users) self.now.lines.now before.now line.now)) }
+            (λ grants. IsRulesLine (option_copied self.now.users) self.now.lines.now before.now
+            line.now grants.items)
+            (IfFault (IsRulesLineFault (option_copied self.now.users) self.now.lines.now before.now
+            line.now)) }
     {
         let Some((word, rest)) = line.words().split_first() else {
             return Ok(Vec::new(self.alloc));
@@ -274,8 +275,8 @@ impl<'l, 't> Reader<'l, 't> {
     // What the lines grant.
     fn grants(&self) -> Result<Vec<Grant>, AccessError>
         ensures { MatchResult result
-            (λ grants. Grants (option_copied self.now.users) self.now.lines.now [] self.now.lines.now
-            grants.items)
+            (λ grants. Grants (option_copied self.now.users) self.now.lines.now []
+            self.now.lines.now grants.items)
             (IsGrantsFault (option_copied self.now.users) self.now.lines.now) }
     {
         let mut grants = Vec::new(self.alloc);
@@ -299,12 +300,13 @@ fn has_taken_name(users: Option<&Users>) -> bool
     }
 }
 
-/// The rules of a text of lines `right path whom..` and `@group = user..`; lines without words, and those that begin with `#`,
-/// say nothing.
+/// The rules of a text of lines `right path whom..` and `@group = user..`; lines without words, and
+/// those that begin with `#`, say nothing.
 ///
-/// A right is `read`, `write` or `admin`; a path is written as in a URL, below the prefix; `whom` is `everybody`, `users`, a group or
-/// the name of a user, which is written as in a URL. `Line` has the first line that is at fault, and its first fault. Before that
-/// comes `TakenName` where a user is called `everybody` or `users`, and then `NotUtf8` where a word isn't UTF-8.
+/// A right is `read`, `write` or `admin`; a path is written as in a URL, below the prefix; `whom`
+/// is `everybody`, `users`, a group or the name of a user, which is written as in a URL. `Line` has
+/// the first line that is at fault, and its first fault. Before that comes `TakenName` where a user is
+/// called `everybody` or `users`, and then `NotUtf8` where a word isn't UTF-8.
 pub fn read(alloc: Global, text: &[u8], users: Option<&Users>) -> Result<Rules, AccessError>
     ensures { MatchResult result
         (λ rules. (has_taken_name (option_copied users.entry) ≡ false)

@@ -11,7 +11,8 @@ pub fn credentials_are_read_once()
         → (name ≡ other_name) × (password ≡ other_password) }
 {}
 
-/// A right includes those before it, reaches down to what is below its path, and is never taken back by another grant.
+/// A right includes those before it, reaches down to what is below its path, and is never taken back
+/// by another grant.
 pub fn rights_are_plain()
     ensures ordered { RightsAreOrdered }
     ensures down { RightsReachDown }

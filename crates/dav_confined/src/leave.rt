@@ -104,7 +104,8 @@ impl Asked {
 
     // Whether a principal may read at all paths that the lists of If speak of.
     fn may_read_all(&self, rules: &Rules, who: Option<&str>) -> bool
-        ensures { result ≡ list_all (may_read rules.now (option_copied who.entry)) self.now.spoken_of }
+        ensures { result
+            ≡ list_all (may_read rules.now (option_copied who.entry)) self.now.spoken_of }
     {
         may_read_each(rules, who, &self.spoken_of)
     }
