@@ -127,3 +127,12 @@ sandboxed r old new name value kind done named valued is =
     (λ (e : new ≡ old ++ (name, value) ∷ []).
     e ∙ ap (λ (n : List ℕ). old ++ (n, value) ∷ []) named ∙ ap (λ (v : List ℕ). old ++ (codes "content-security-policy", v) ∷ []) valued
     ∙ ap (λ (fs : List Header). old ++ fs) (sym (cond-true (acts kind) (field ∷ []) [] is))) done
+
+pub told_applied : {T E : Type 0} (r : Result T E) (old new : List Header) (name value : List ℕ) (is : Bool) → OnOk r (new ≡ old ++ (name, value) ∷ []) → name ≡ codes "preference-applied"
+    → value ≡ codes "return=minimal" → is ≡ true → OnOk r (new ≡ old ++ (if is then (codes "preference-applied", codes "return=minimal") ∷ [] else []))
+told_applied r old new name value is done named valued wanted =
+    let field : Header = (codes "preference-applied", codes "return=minimal") in
+    on_ok r
+    (λ (e : new ≡ old ++ (name, value) ∷ []).
+    e ∙ ap (λ (n : List ℕ). old ++ (n, value) ∷ []) named ∙ ap (λ (v : List ℕ). old ++ (codes "preference-applied", v) ∷ []) valued
+    ∙ ap (λ (fs : List Header). old ++ fs) (sym (cond-true is (field ∷ []) [] wanted))) done

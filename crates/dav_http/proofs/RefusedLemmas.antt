@@ -7,7 +7,9 @@ use Rattle.dav_core.specs.World.{Node, node_at}
 use Rattle.dav_core.specs.declared.errors.DavError.{DavError}
 use Rattle.dav_core.specs.declared.errors.DavError.TheVariants as dav
 use Rattle.dav_core.specs.declared.method.DavMethod.{DavMethod}
-use Rattle.dav_server.specs.Head.{Request}
+use Rattle.httparse.proofs.GrammarLemmas.{request_unique}
+use Rattle.dav_server.specs.Head.{IsHead, Request, request_of_head}
+use Rattle.dav_http.specs.Kept.{Says}
 use Rattle.dav_server.specs.Method.{GivesServed}
 use Rattle.dav_server.specs.Server.{Server}
 use Rattle.dav_server.specs.Target.{TargetNames}
@@ -18,7 +20,16 @@ use Rattle.dav_headers.specs.If.{ConditionList, IsIfHeader}
 use Rattle.dav_headers.specs.declared.errors.HeaderError.{HeaderError}
 use Rattle.dav_headers.specs.declared.errors.HeaderError.TheVariants as header-error
 use Rattle.dav_server.specs.Headers.{headers_of}
-use Rattle.dav_http.specs.Refused.{AsksForTooMany, HasUnread, IsChangedAt, IsStale, IsUnmet, IsUnread, MayChange, NoUpdateIsLost, Refuses, Tells, many, since_in, stale, unmet, unread}
+use Rattle.dav_http.specs.Refused.{AsksForTooMany, HasUnread, IsChangedAt, IsStale, IsUnmet, IsUnread, MayBeRefused, MayChange, NoUpdateIsLost, Refuses, Tells, many, since_in, stale, unmet, unread}
+
+-- bytes that say one request are the head of no other
+pub said_of : (bytes : List ℕ) (a b : Request) → IsHead bytes a → Says bytes b → a ≡ b
+said_of bytes a b (_, head, reads, _, is) (other, also, same) = is ∙ ap request_of_head (request_unique bytes head other [] [] reads also).0 ∙ sym same
+
+-- a request that isn't run has a method of which some aren't
+pub may_be_refused : (s : Server) (q : Request) (body : List ℕ) (status : ℕ) → Refuses s q body status → MayBeRefused q.method
+may_be_refused s q body _ (many asks) = inl asks.0
+may_be_refused s q body status (unmet may is) = inr may
 
 -- an update that is run isn't one that its client would lose
 pub no_update_is_lost : NoUpdateIsLost

@@ -12,3 +12,4 @@ pub mod Presented
 pub mod PresentedParts
 pub mod Refused
 pub mod Saved
+pub mod Room

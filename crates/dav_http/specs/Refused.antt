@@ -66,6 +66,10 @@ AsksForTooMany q body = (q.method ≡ codes "PROPFIND") × (tree : ElementTree) 
 
 -- ---- which are refused
 
+-- A request with this method may be one that isn't run: a PROPFIND, or one that may change something.
+abbrev pub MayBeRefused : List ℕ → Type 0
+MayBeRefused method = (method ≡ codes "PROPFIND") ⊎ MayChange method
+
 -- A request with this body isn't run by a server, and is answered with this status.
 pub data Refuses (s : Server) (q : Request) (body : List ℕ) : ℕ → Type 0 where
   many : AsksForTooMany q body → Refuses s q body 400

@@ -24,6 +24,7 @@ use dav_server::exchange::{Exchange, GrantToken, LAST_MOMENT, TokenError};
 use dav_store::memfs::MemFs;
 use dav_store::memls::MemLs;
 use dav_xml::XmlError;
+pub use refused::may_be_refused;
 use std::alloc::{AllocError, Global};
 use std::marker::Model;
 use thiserror::Error;
@@ -151,6 +152,7 @@ impl Handler {
     ghost use Rattle.dav_server.specs.Server.{Answers};
     ghost use Rattle.dav_server.specs.Setup.{IsPrefix};
     ghost use Rattle.dav_store.specs.LockEnds.{first_ended};
+    ghost use Rattle.dav_store.specs.Used.{used_bytes};
     ghost use Rattle.dav_http.specs.Leaves.{Leaves};
     ghost use Rattle.dav_http.specs.Sent.{HoldsSendable, IsSendableTextIfAny};
     ghost use Rattle.dav_http.specs.SentLaws.{IsSendableRequest};
@@ -199,6 +201,21 @@ impl Handler {
             → option_copied result ≡ first_ended now locks }
     {
         self.handler.locks()?.first_ended(now)
+    }
+
+    /// How many bytes all files have together (RFC 4331, section 4); 2^64 - 1 where they are more. Nothing changes.
+    pub fn used_bytes(&self, alloc: Global) -> Result<u64, NoMemory>
+        ensures { IfOk result
+            (λ used. used ≡ used_bytes self.now.server.state.store.world.nodes) }
+    {
+        self.handler.fs().used_bytes(alloc)
+    }
+
+    /// The prefix of the server's paths.
+    pub fn prefix(&self) -> &str
+        ensures { result.now ≡ self.now.server.settings.prefix }
+    {
+        self.handler.prefix()
     }
 
     // The reply to a request that may be sent.

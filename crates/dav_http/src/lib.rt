@@ -17,8 +17,8 @@ mod sendable;
 mod tests;
 
 pub use ending::unlock_head;
-pub use handler::{HandleError, Handler, method_of};
+pub use handler::{HandleError, Handler, may_be_refused, method_of};
 pub use head::{Head, is_lock, is_safe, leaves, takes_tree};
-pub use presented::present;
+pub use presented::{Store, present};
 pub use response::send;
 pub use sendable::is_sendable_if_any;

@@ -1,26 +1,34 @@
-//! What a client is shown of a reply of the machine (RFC 9110, sections 13 and 14; RFC 4918, section 9.1).
-ghost use Rattle.std.specs.Prelude.{◌≡◌, IfOk, OnOk, bytes_eq, codes};
+//! What a client is shown of a reply of the machine (RFC 9110, sections 13 and 14; RFC 4918, section 9.1; RFC 4331; RFC 8144).
+ghost use Rattle.std.specs.Prelude.{◌≡◌, ◌∷◌, ◌++◌, [], IfOk, OnOk, bytes_eq, codes, false, if◌then◌else◌};
 ghost use Rattle.std.specs.Bool.{Decides};
-ghost use Rattle.http_server.specs.Response.{IsBlank};
-ghost use Rattle.dav_http.specs.Presented.{IsOfFile, IsShown, ShowsFile, found, shown_tree, shown_body};
+ghost use Rattle.http_server.specs.Response.{IsBlank, fields_of};
+ghost use Rattle.dav_http.specs.Presented.{IsOfFile, IsShown, ShowsFile, applied, found, leaves_out, shown_tree, shown_body};
+ghost use Rattle.dav_presented.specs.Quota.{with_quota};
+ghost use Rattle.dav_http.specs.Room.{room_in};
+ghost use Rattle.dav_http.specs.Sending.{IsSentWith};
 
 mod asked;
 mod fields;
+mod preferred;
 mod told;
 
+use crate::handler::Handler;
 use crate::head::Head;
 use crate::presented::asked::answer_of;
 use crate::presented::fields::{fill, type_at};
+use crate::presented::preferred::preferred_in;
 use crate::presented::told::{modified_in, tag_in};
 use crate::response::{body_of, send};
 use bytes::Bytes;
 use dav_core::element::Element;
 use dav_core::errors::NoMemory;
 use dav_engine::{Reply, ReplyBody};
-use dav_presented::missing::answered;
+use dav_presented::minimal::answered_to;
+use dav_presented::quota::{Room, asks_for_quota, with_quota};
 use dav_presented::typed::with_types;
 use dav_xml::XmlError;
 use http::StatusCode;
+use http_header::{HeaderName, HeaderValue};
 use http_server::Response;
 use std::alloc::{AllocError, Global};
 
@@ -72,31 +80,85 @@ fn show_file(
     )
 }
 
+/// A server whose store has room for so many more bytes.
+#[derive(Clone, Copy)]
+pub struct Store<'a> {
+    /// The server.
+    pub server: &'a Handler,
+    /// How many bytes can still be stored (RFC 4331, section 3).
+    pub available: u64,
+}
+
+// The multistatus in which folders tell the room of a store, where it is asked for.
+fn measured(
+    alloc: Global,
+    store: Store<'_>,
+    propfind: &Element,
+    told: Element,
+) -> Result<Element, NoMemory>
+    ensures { IfOk result (λ sent. sent ≡ with_quota (room_in store.entry) propfind.now told) }
+{
+    if !asks_for_quota(propfind) {
+        return Ok(told);
+    }
+    let room = Room {
+        used: store.server.used_bytes(alloc)?,
+        available: store.available,
+    };
+    with_quota(alloc, room, propfind, told)
+}
+
 // What is told to a PROPFIND with a body of these bytes.
-fn shown_tree(alloc: Global, body: &[u8], told: Element) -> Result<Element, NoMemory>
-    ensures { IfOk result (λ sent. sent ≡ shown_tree body.now told) }
+fn shown_tree(
+    alloc: Global,
+    leaves_out: bool,
+    store: Store<'_>,
+    body: &[u8],
+    told: Element,
+) -> Result<Element, NoMemory>
+    ensures { IfOk result
+        (λ sent. sent ≡ shown_tree leaves_out (room_in store.entry) body.now told) }
 {
     match dav_xml::read(alloc, body) {
-        Ok(propfind) => with_types(alloc, answered(alloc, &propfind, told)?),
+        Ok(propfind) => {
+            let told = measured(alloc, store, &propfind, told)?;
+            with_types(alloc, answered_to(alloc, leaves_out, &propfind, told)?)
+        }
         Err(XmlError::Memory) => Err(NoMemory),
         Err(XmlError::Fault(_)) => with_types(alloc, told),
     }
 }
 
 // The body of a listing, where it is a tree.
-fn shown_body(alloc: Global, body: &[u8], told: ReplyBody) -> Result<ReplyBody, NoMemory>
-    ensures { IfOk result (λ sent. sent ≡ shown_body body.now told) }
+fn shown_body(
+    alloc: Global,
+    leaves_out: bool,
+    store: Store<'_>,
+    body: &[u8],
+    told: ReplyBody,
+) -> Result<ReplyBody, NoMemory>
+    ensures { IfOk result
+        (λ sent. sent ≡ shown_body leaves_out (room_in store.entry) body.now told) }
 {
     match told {
-        ReplyBody::Tree(tree) => Ok(ReplyBody::Tree(shown_tree(alloc, body, tree)?)),
+        ReplyBody::Tree(tree) => {
+            let tree = shown_tree(alloc, leaves_out, store, body, tree)?;
+            Ok(ReplyBody::Tree(tree))
+        }
         ReplyBody::Bytes(bytes) => Ok(ReplyBody::Bytes(bytes)),
         ReplyBody::Nothing => Ok(ReplyBody::Nothing),
     }
 }
 
 // The reply to a PROPFIND with a body of these bytes.
-fn found(alloc: Global, body: &[u8], reply: Reply) -> Result<Reply, NoMemory>
-    ensures { IfOk result (λ sent. sent ≡ found body.now reply) }
+fn found(
+    alloc: Global,
+    leaves_out: bool,
+    store: Store<'_>,
+    body: &[u8],
+    reply: Reply,
+) -> Result<Reply, NoMemory>
+    ensures { IfOk result (λ sent. sent ≡ found leaves_out (room_in store.entry) body.now reply) }
 {
     let Reply {
         status,
@@ -107,7 +169,7 @@ fn found(alloc: Global, body: &[u8], reply: Reply) -> Result<Reply, NoMemory>
         207 => Ok(Reply {
             status,
             headers,
-            body: shown_body(alloc, body, told)?,
+            body: shown_body(alloc, leaves_out, store, body, told)?,
         }),
         501 => Ok(Reply {
             status: StatusCode::FORBIDDEN,
@@ -122,23 +184,60 @@ fn found(alloc: Global, body: &[u8], reply: Reply) -> Result<Reply, NoMemory>
     }
 }
 
+// Adds the field by which a listing says that it is minimal, where it is one.
+fn add_applied(is_applied: bool, response: &mut Response) -> Result<(), AllocError>
+    ensures fields { OnOk result (fields_of response.new ≡ fields_of response.old
+        ++ (if is_applied then (codes "preference-applied", codes "return=minimal") ∷ [] else [])) }
+    ensures status { OnOk result (response.new.status ≡ response.old.status) }
+    ensures body { OnOk result (response.new.body ≡ response.old.body) }
+{
+    if !is_applied {
+        return Ok(());
+    }
+    let name = HeaderName::from_static("preference-applied");
+    response.add_header(name, HeaderValue::from_static("return=minimal"))
+}
+
+// Fills a response with what a PROPFIND found.
+fn show_listing(
+    alloc: Global,
+    head: &Head<'_>,
+    body: &[u8],
+    store: Store<'_>,
+    reply: Reply,
+    response: &mut Response,
+) -> Result<(), AllocError>
+    requires { IsBlank response.old }
+    ensures { OnOk result (IsSentWith (applied head.now reply) false
+        (found (leaves_out head.now) (room_in store.entry) body.now reply) response.new) }
+{
+    let preferred = preferred_in(alloc, head)?;
+    let is_applied = reply.status.as_u16() == 207 && preferred.is_minimal;
+    let found = found(alloc, preferred.leaves_out, store, body, reply)?;
+    send(alloc, found, false, response)?;
+    add_applied(is_applied, response)
+}
+
 /// Fills a response with what a client is shown of the reply to a request with this head and body, which came at this moment, in
-/// seconds since 1970. A file is shown whole, in part, or not again (RFC 9110, sections 13 and 14), with its type by its name
-/// (section 8.3.1); a PROPFIND is told of each property that it names (RFC 4918, section 9.1), and 403 where it goes too deep; all
-/// else is sent as it is.
+/// seconds since 1970, where the server is this one, and has so many bytes left for files. A file is shown whole, in part, or not again (RFC 9110, sections 13 and 14),
+/// with its type by its name (section 8.3.1); a PROPFIND is told of each property that it names (RFC 4918, section 9.1), or, where
+/// it wants, of those alone that are there (RFC 8144, section 2.1), of the room of folders (RFC 4331), and 403 where it goes too
+/// deep; all else is sent as it is.
 pub fn present(
     alloc: Global,
     head: &Head<'_>,
     body: &[u8],
     moment: u64,
+    store: Store<'_>,
     reply: Reply,
     response: &mut Response,
 ) -> Result<(), AllocError>
     requires { IsBlank response.old }
-    ensures { OnOk result (IsShown head.now body.now moment reply response.new) }
+    ensures { OnOk result
+        (IsShown head.now body.now moment (room_in store.entry) reply response.new) }
 {
     if is_propfind(head.method()) {
-        return send(alloc, found(alloc, body, reply)?, false, response);
+        return show_listing(alloc, head, body, store, reply, response);
     }
     if !is_of_file(head, &reply) {
         return send(alloc, reply, is_head(head.method()), response);

@@ -5,7 +5,7 @@ ghost use Rattle.dav_core.specs.declared.errors.DavError.TheVariants as DavError
 ghost use Rattle.http_header.specs.HeaderMap.{get_all};
 ghost use Rattle.dav_headers.specs.ETagList.{IsTagList};
 ghost use Rattle.dav_headers.specs.If.{IsIfHeader};
-ghost use Rattle.dav_http.specs.Refused.{AsksForTooMany, HasUnread, IsUnread, MayChange, since_in};
+ghost use Rattle.dav_http.specs.Refused.{AsksForTooMany, HasUnread, IsUnread, MayBeRefused, MayChange, since_in};
 
 use super::Handler;
 use crate::head::{Head, is_safe};
@@ -28,6 +28,13 @@ fn may_change(method: &[u8]) -> bool
     ensures { Decides result (MayChange method.now) }
 {
     method_of(method).is_ok() && !is_safe(method)
+}
+
+/// Whether a request with this method may be one that isn't run (`Handler::refusal`): a PROPFIND, or one that may change something.
+pub fn may_be_refused(method: &[u8]) -> bool
+    ensures { Decides result (MayBeRefused method.now) }
+{
+    method == b"PROPFIND".as_slice() || may_change(method)
 }
 
 // Whether an If is there and means nothing (RFC 4918, section 10.4).

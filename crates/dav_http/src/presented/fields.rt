@@ -4,7 +4,8 @@ ghost use Rattle.std.specs.List.{filter};
 ghost use Rattle.http_header.specs.FieldValue.{IsFieldValue, is_visible_text};
 ghost use Rattle.http_server.specs.Response.{IsBlank, IsResponse, fields_of};
 ghost use Rattle.dav_engine.specs.Reply.{headers_in};
-ghost use Rattle.dav_http.specs.Presented.{HasNoQuery, IsAddressIn, IsTypeAt, content_fields, fields_by, guards, range_field, with_type};
+ghost use Rattle.dav_http.specs.Presented.{HasNoQuery, IsAddressIn, IsNameIn, IsTypeAt, content_fields, fields_by, guards, range_field, with_type};
+ghost use Rattle.percent_encoding.specs.Percent.{percent_decode};
 ghost use Rattle.dav_http.specs.PresentedParts.{IsRangeText, IsValid};
 ghost use Rattle.dav_presented.specs.Types.{acts};
 ghost use Rattle.dav_http.specs.Sending.{sent_fields};
@@ -18,7 +19,9 @@ use http_header::{
     HeaderValueError, X_CONTENT_TYPE_OPTIONS,
 };
 use http_server::Response;
+use percent_encoding::percent_decode;
 use std::alloc::{AllocError, Global};
+use std::str;
 
 // The status code of a number that is one.
 fn status_code(number: u16) -> StatusCode
@@ -49,12 +52,26 @@ fn address_in(target: &str) -> &str
     }
 }
 
+// The name in an address, which escapes these bytes.
+fn name_in<'a>(address: &'a str, bytes: &'a [u8]) -> &'a str
+    requires { bytes.now ≡ percent_decode address.now }
+    ensures { IsNameIn address.now result.now }
+{
+    match str::from_utf8(bytes) {
+        Ok(name) => name,
+        Err(_) => address,
+    }
+}
+
 /// The type of the file that a target names, if it has one by its name.
 pub fn type_at(alloc: Global, target: &str) -> Result<Option<&'static str>, AllocError>
     ensures is { IfOk result (λ kind. IsTypeAt target.now (option_map (λ t. t.now) kind)) }
     ensures text { IfOk result (λ kind. IfSome kind (λ t. IsTrue (is_visible_text t.now))) }
 {
-    type_of(alloc, address_in(target))
+    let address = address_in(target);
+    let mut bytes = Vec::new(alloc);
+    percent_decode(address.as_bytes()).append_to(&mut bytes)?;
+    type_of(alloc, name_in(address, &bytes))
 }
 
 // The value of a field, with this type in the place of the one that says nothing.

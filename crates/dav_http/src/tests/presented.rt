@@ -1,6 +1,6 @@
 //! What a client is shown, as rows: each request, and its status, some of its fields, and its body.
 use super::{parts, unescaped, value_in};
-use crate::{HandleError, Handler, Head, present};
+use crate::{HandleError, Handler, Head, Store, present};
 use bytes::{Buf, Bytes};
 use dav_engine::Caller;
 use http_server::Response;
@@ -16,6 +16,8 @@ const SHOWN: &str = "\
 # types, and that parts may be asked for (RFC 9110, sections 8.3.1 and 14.3)
 9 GET /a.txt HTTP/1.1^^ -> 200 text/plain; charset=utf-8 bytes nosniff|0123456789
 9 GET /a.txt?x=.png HTTP/1.1^^ -> 200 text/plain; charset=utf-8 bytes nosniff|0123456789
+9 GET /a.t%78t HTTP/1.1^^ -> 200 text/plain; charset=utf-8 bytes nosniff|0123456789
+9 GET /%61%2etxt?x HTTP/1.1^^ -> 200 text/plain; charset=utf-8 bytes nosniff|0123456789
 9 HEAD /a.txt HTTP/1.1^^ -> 200 10 text/plain; charset=utf-8 bytes nosniff|
 # parts (section 14)
 9 GET /a.txt HTTP/1.1^Range: bytes=2-4^^ -> 206 text/plain; charset=utf-8 bytes bytes 2-4/10 nosniff|234
@@ -46,6 +48,16 @@ const SHOWN: &str = "\
 9 PROPFIND /a.txt HTTP/1.1^Depth: 0^^<propfind xmlns='DAV:'><prop><getetag/><none/></prop></propfind> -> 207 ~HTTP/1.1 404 Not Found
 9 PROPFIND /p.HTML HTTP/1.1^Depth: 0^^ -> 207 ~text/html; charset=utf-8
 9 PROPFIND /a.txt HTTP/1.1^Depth: 0^^<propfind xmlns='DAV:'> -> 400 |
+9 PROPFIND /a.txt HTTP/1.1^Depth: 0^Prefer: return=minimal^^<propfind xmlns='DAV:'><prop><getcontenttype/><none/></prop></propfind> -> 207 return=minimal|~</D:propstat></D:response></D:multistatus>
+9 PROPFIND /a.txt HTTP/1.1^Depth: 0^Prefer: return=minimal^^<propfind xmlns='DAV:'><prop><none/></prop></propfind> -> 207 return=minimal|~<D:propstat><D:prop/><D:status>HTTP/1.1 200 OK</D:status></D:propstat>
+9 PROPFIND /a.txt HTTP/1.1^Depth: 0^Prefer: wait=1, Return=Minimal; x^^<propfind xmlns='DAV:'><prop><none/></prop></propfind> -> 207 return=minimal|~200 OK
+9 PROPFIND /a.txt HTTP/1.1^Depth: 0^Brief: t^^<propfind xmlns='DAV:'><prop><none/></prop></propfind> -> 207 |~200 OK
+9 PROPFIND /a.txt HTTP/1.1^Depth: 0^Prefer: return=representation^^<propfind xmlns='DAV:'><prop><none/></prop></propfind> -> 207 ~404 Not Found
+9 PROPFIND /none.txt HTTP/1.1^Depth: 0^Prefer: return=minimal^^<propfind xmlns='DAV:'><prop><none/></prop></propfind> -> 404 |
+# the room of folders (RFC 4331): 14 bytes are in files, and 7 are left
+9 PROPFIND / HTTP/1.1^Depth: 0^^<propfind xmlns='DAV:'><prop><quota-used-bytes/></prop></propfind> -> 207 ~<D:quota-used-bytes>14</D:quota-used-bytes>
+9 PROPFIND / HTTP/1.1^Depth: 0^^<propfind xmlns='DAV:'><prop><quota-available-bytes/></prop></propfind> -> 207 ~<D:quota-available-bytes>7</D:quota-available-bytes>
+9 PROPFIND /a.txt HTTP/1.1^Depth: 0^^<propfind xmlns='DAV:'><prop><quota-used-bytes/></prop></propfind> -> 207 ~HTTP/1.1 404 Not Found
 # how deep (section 9.1)
 9 PROPFIND / HTTP/1.1^Depth: infinity^^ -> 403 ~propfind-finite-depth
 ";
@@ -84,6 +96,7 @@ fn told(alloc: Global, response: &Response) -> Result<Vec<u8>, AllocError> {
         "content-range",
         "x-content-type-options",
         "content-security-policy",
+        "preference-applied",
     ] {
         add_value(&mut out, response, name)?;
     }
@@ -109,7 +122,11 @@ fn shown(
     let reply = server.handle(alloc, head, content, &caller)?;
     let mut response = Response::new(alloc);
     if let Some(read) = Head::read(head) {
-        present(alloc, &read, body, moment, reply, &mut response)?;
+        let store = Store {
+            server,
+            available: 7,
+        };
+        present(alloc, &read, body, moment, store, reply, &mut response)?;
     }
     Ok(response)
 }
