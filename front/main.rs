@@ -1,7 +1,7 @@
 //! The front: it moves bytes between sockets and the core, and knows nothing of HTTP.
 //!
-//! Each connection has a slot and a thread. The core answers each report but GONE, TICK, HELLO and USERS with one order: bytes to write,
-//! and what to do then. The thread carries it out and reports once. So at most one message of a connection is under way in each
+//! Each connection has a slot and a thread. The core answers each report but GONE, TICK, HELLO, USERS and ROOM with one order: bytes to
+//! write, and what to do then. The thread carries it out and reports once. So at most one message of a connection is under way in each
 //! direction, and a client that doesn't read stops only itself.
 //!
 //! A report is `slot u32, kind u8, length u32, seconds u64, bytes`, an order `slot u32, next u8, length u32, bytes`; numbers
@@ -10,6 +10,7 @@
 //! SIGTERM and Ctrl-C end the core's input: it answers what it has, and ends; then the front does. SIGHUP reports the users again.
 #![deny(unsafe_code)]
 
+mod room;
 mod signals;
 
 use signals::{HANG_UP, INTERRUPT, Signals, TERMINATE};
@@ -51,6 +52,10 @@ const SENT: u8 = 3;
 const GONE: u8 = 4;
 const TICK: u8 = 5;
 const USERS: u8 = 6;
+const ROOM: u8 = 7;
+
+/// After so many seconds the room that is left is reported again.
+const MEASURED: u64 = 5;
 
 /// The most bytes of a report.
 const MOST: usize = 65_536;
@@ -60,6 +65,8 @@ struct Settings {
     idle: Duration,
     /// The file of the users, which SIGHUP has read again.
     users: Option<String>,
+    /// The folder on whose disk the state is, of which the room is reported.
+    folder: Option<String>,
     /// What is said once the core answers; `{port}` stands for the port.
     ready: Option<String>,
     address: String,
@@ -211,6 +218,7 @@ fn main() {
     command.process_group(0); // Ctrl-C at a terminal is for the front alone
     let mut child = command.spawn().unwrap_or_else(|error| fail(&settings.program, error));
     let front = Arc::new(Front::new(child.stdin.take().unwrap(), settings.idle));
+    let process = child.id();
     let handing = front.clone();
     thread::spawn(move || end_with_core(&handing, child));
     let hearing = front.clone();
@@ -221,13 +229,20 @@ fn main() {
         .and_then(|mut file| file.read_exact(&mut random))
         .unwrap_or_else(|error| fail("/dev/urandom", error));
     let _ = front.report(0, HELLO, &random);
+    let folder = settings.folder.clone();
+    report_room(&front, folder.as_deref(), process);
     if wait_for_core(&front) && std::env::var_os("FRONT_BEGUN").is_none() {
         say_ready(settings.ready.as_deref(), &listener);
     }
     let ticking = front.clone();
     thread::spawn(move || {
+        let mut ticks = 0;
         while ticking.report(0, TICK, &[]).is_ok() {
             thread::sleep(SECOND);
+            ticks += 1;
+            if ticks % MEASURED == 0 {
+                report_room(&ticking, folder.as_deref(), process);
+            }
         }
     });
     accept(&front, &listener);
@@ -238,6 +253,7 @@ fn read_settings() -> Settings {
     let mut settings = Settings {
         idle: Duration::from_secs(75),
         users: None,
+        folder: None,
         ready: None,
         address: String::new(),
         program: String::new(),
@@ -252,6 +268,7 @@ fn read_settings() -> Settings {
                 _ => usage(),
             },
             "--users" => settings.users = Some(value),
+            "--room" => settings.folder = Some(value),
             "--ready" => settings.ready = Some(value),
             _ => usage(),
         }
@@ -261,6 +278,13 @@ fn read_settings() -> Settings {
     settings.program = words.next().unwrap_or_else(|| usage());
     settings.arguments = words.collect();
     settings
+}
+
+/// Reports how many bytes the core can still store in a folder.
+fn report_room(front: &Front, folder: Option<&str>, process: u32) {
+    if let Some(folder) = folder {
+        let _ = front.report(0, ROOM, &room::left(folder, process).to_le_bytes());
+    }
 }
 
 /// Listens at an address. One that is in use is tried again for a while: another server may be letting it go.
@@ -366,7 +390,7 @@ fn begin_again() -> ! {
 }
 
 fn usage() -> ! {
-    eprintln!("usage: front [--idle SECONDS] [--users FILE] [--ready TEXT] ADDRESS:PORT PROGRAM [ARGUMENT..]");
+    eprintln!("usage: front [--idle SECONDS] [--users FILE] [--room FOLDER] [--ready TEXT] ADDRESS:PORT PROGRAM [ARGUMENT..]");
     exit(64)
 }
 

@@ -1,13 +1,14 @@
 """What a live server runs of a request, what it refuses to run, and what it shows of the machine's reply, a second time.
 
-usage: no program; `kept(head)`, `refusal(request, server)` and `shown(request, reply, moment)` go around a server of tools/oracle.py
+usage: no program; `kept(head)`, `refusal(request, server)` and `shown(request, reply, moment, server)` go around a server of tools/oracle.py
 
 Nothing here is taken from the program: it is written from docs/SERVE.md ("Parts, dates, types, and what isn't there"), RFC 9110 (sections 8.3,
-13 and 14) and RFC 4918 (9.1, 10.4 and 14). Each rule stands in plain words where it is applied.
+13 and 14), RFC 4918 (9.1, 10.4 and 14), RFC 4331, RFC 7240 and RFC 8144 (2.1). Each rule stands in plain words where it is applied.
 """
 import datetime
 import re
 import sys
+import urllib.parse
 
 from serving import TOP
 
@@ -136,8 +137,8 @@ def near_year(digits, moment):
 # Files
 
 
-def shown(request, reply, moment):
-    """What is sent of the machine's reply to a request that came at a moment."""
+def shown(request, reply, moment, server):
+    """What is sent of the machine's reply to a request that came at a moment. How many bytes can still be stored isn't known here: `?`."""
     head = read(request.head)
     if head is None:
         return reply
@@ -146,7 +147,12 @@ def shown(request, reply, moment):
     if head.method == b"PROPFIND" and reply.status == 501:
         return oracle.Reply(403, reply.headers, reply.body)
     if head.method == b"PROPFIND" and reply.status == 207:
-        return oracle.Reply(207, reply.headers, shown_listing(reply.body, asked_names(request.body)))
+        asked, prefers = asked_names(request.body), prefers_minimal(head.values(b"prefer"))
+        used = sum(len(node.data) for node in server.store.nodes.values())
+        room = [(name, value) for name, value in (("quota-available-bytes", "?"), ("quota-used-bytes", str(used))) if (oracle.DAV, name) in asked]
+        is_minimal = prefers or is_brief(head.values(b"brief"))
+        headers = {**reply.headers, "preference-applied": "return=minimal"} if prefers else reply.headers
+        return oracle.Reply(207, headers, shown_listing(reply.body, asked, room, is_minimal))
     return reply
 
 
@@ -223,10 +229,14 @@ def part_of(head, size):
 
 def type_at(address):
     """The type of a file by what is behind the last dot of its name, in letters of either case (8.3). An address with a slash at its end
-    is that of a folder (RFC 4918, 5.2), so it has no such name; the name is read as the request writes it (docs/SERVE.md)."""
+    is that of a folder (RFC 4918, 5.2), so it has no such name; escapes are read where they give text (docs/SERVE.md)."""
     name = address.partition(b"?")[0].rpartition(b"/")[2]
-    _, dot, extension = name.decode("latin-1").rpartition(".")
-    return TYPES.get(extension.lower(), OCTETS) if dot and name not in (b".", b"..") else OCTETS
+    try:
+        name = urllib.parse.unquote_to_bytes(name).decode()
+    except UnicodeDecodeError:
+        name = name.decode("latin-1")
+    _, dot, extension = name.rpartition(".")
+    return TYPES.get(extension.lower(), OCTETS) if dot and name not in (".", "..") else OCTETS
 
 
 def acts(kind):
@@ -253,16 +263,50 @@ def name_in(element):
     return element.namespace or spaces.get(element.prefix, ""), element.name
 
 
-def shown_listing(told, asked):
-    """A multistatus in which each response has types, usual names, and at its end, under 404, the names that it doesn't tell (9.1)."""
+def prefers_minimal(values):
+    """Whether Prefer asks for `return=minimal` (RFC 7240, 2 and 4.2). The first `return` counts; values with quoted strings don't."""
+    wishes = [wish for value in values if b'"' not in value and all(byte == 9 or 32 <= byte < 127 for byte in value)
+              for wish in value.decode().lower().split(",")]
+    for wish in wishes:
+        name, _, value = wish.partition(";")[0].partition("=")
+        if name.strip() == "return":
+            return value.strip() == "minimal"
+    return False
+
+
+def is_brief(values):
+    """Whether Brief is `t`, by which Microsoft's clients don't want to be told what isn't there."""
+    return len(values) == 1 and values[0].lower() == b"t"
+
+
+def with_room(children, room):
+    """The children of a response about a folder, which tells the room too: where it tells what is there, if it does (RFC 4331, 3 and 4)."""
+    there = {name_in(element) for child in children if child.name == "propstat" for element in child.elements()[0].elements()}
+    more = [oracle.made(name, value) for name, value in room if (oracle.DAV, name) not in there]
+    if not more:
+        return children
+    found = [place for place, child in enumerate(children) if child.name == "propstat" and child.elements()[1].text() == oracle.status_text(200)]
+    if not found:
+        return [*children, oracle.made("propstat", oracle.made("prop", *more), oracle.made("status", oracle.status_text(200)))]
+    prop, status = children[found[0]].elements()
+    told = children[found[0]].with_children([prop.with_children([*prop.children, *more]), status])
+    return [*children[:found[0]], told, *children[found[0] + 1:]]
+
+
+def shown_listing(told, asked, room, is_minimal):
+    """A multistatus in which each response has types, usual names, a folder's the room that is asked for, and at its end, under 404, the
+    names that it doesn't tell (9.1). A minimal one leaves these out, and has at least an empty `propstat` (RFC 8144, 2.1)."""
     responses = []
     for response in told.elements():
         href = next(child.text() for child in response.elements() if child.name == "href")
-        children = [shown_propstat(child, href) if child.name == "propstat" else child for child in response.elements()]
+        children = with_room(response.elements(), room) if href.endswith("/") else response.elements()
+        children = [shown_propstat(child, href) if child.name == "propstat" else child for child in children]
         properties = [element for child in children if child.name == "propstat" for element in child.elements()[0].elements()]
         there = {name_in(element) for element in properties}
         missing = [name for name in dict.fromkeys(asked) if name not in there]
-        if missing:
+        if is_minimal and not any(child.name == "propstat" for child in children):
+            children.append(oracle.made("propstat", oracle.made("prop"), oracle.made("status", oracle.status_text(200))))
+        elif missing and not is_minimal:
             names = [oracle.Element(name, None, space or None) for space, name in missing]
             status = oracle.made("status", oracle.status_text(404))
             children.append(oracle.made("propstat", oracle.made("prop", *names), status))

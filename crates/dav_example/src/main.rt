@@ -5,7 +5,7 @@
 use anyhow::Result;
 use bytes::{Buf, Bytes};
 use dav_engine::Caller;
-use dav_http::{Handler, Head, present, send};
+use dav_http::{Handler, Head, Store, present, send};
 use http_server::Response;
 use std::alloc::Global;
 use std::io::{self, Write};
@@ -35,7 +35,19 @@ fn answer(alloc: Global, server: &mut Handler, head: &[u8], body: Bytes) -> Resu
     match Head::read(head) {
         Some(read) => {
             let bytes = body.as_slice();
-            present(alloc, &read, bytes, caller.moment, reply, &mut response)?;
+            let store = Store {
+                server,
+                available: 1_000_000,
+            };
+            present(
+                alloc,
+                &read,
+                bytes,
+                caller.moment,
+                store,
+                reply,
+                &mut response,
+            )?;
         }
         None => send(alloc, reply, false, &mut response)?,
     }

@@ -1,5 +1,5 @@
 -- What the answer of a machine is, by its parts.
-use Rattle.std.proofs.Common.{◌≡◌, ◌⊎◌, inl, inr, ℕ, List, Option, Some, None, refl, subst, sym, ◌∙◌}
+use Rattle.std.proofs.Common.{◌≡◌, ◌⊎◌, inl, inr, ℕ, List, Option, Some, None, ap, refl, subst, sym, ◌∙◌}
 use Rattle.http_server.specs.declared.response.Response.{Response}
 use Rattle.dav_core.specs.declared.method.DavMethod.TheVariants.{Get, Head}
 use Rattle.dav_engine.specs.Reply.{Reply}
@@ -9,8 +9,10 @@ use Rattle.dav_server.proofs.HeadLemmas.{one_head}
 use Rattle.dav_http.specs.Leaves.{Leaves, reading}
 use Rattle.dav_http.specs.Steps.{IsStepFor}
 use Rattle.dav_kept.specs.Records.{RequestView}
-use Rattle.dav_http.specs.Refused.{Refuses, Tells}
-use Rattle.dav_live.specs.Answers.{AsksToSee, IsAnswer, IsForeignUnlock, IsNotRun, IsSentFor, caller_of, foreign, refused, replied, shown}
+use Rattle.dav_http.specs.Kept.{IsKeptOf, depthless, lock, other}
+use Rattle.dav_http.specs.Refused.{MayBeRefused, Refuses, Tells}
+use Rattle.dav_http.proofs.RefusedLemmas.{may_be_refused, said_of}
+use Rattle.dav_live.specs.Answers.{AsksToSee, IsAnswer, IsForeignUnlock, IsKeptFrom, IsNotRun, IsSentFor, caller_of, foreign, refused, replied, shown}
 
 -- a GET or HEAD leaves the server
 seeing_leaves : (head : List ℕ) (status : ℕ) → AsksToSee head → Leaves head status
@@ -23,13 +25,13 @@ module _ (old mid : Server) (q : RequestView) (head : List ℕ) (same : head ≡
   pub folder_leaves : (reply.status ≡ 405) × AsksToSee head → mid ≡ old
   folder_leaves (status, sees) = left (seeing_leaves q.head reply.status (subst AsksToSee same sees))
 
-  pub folder_answered : (new : Server) → (reply.status ≡ 405) × AsksToSee head → (new ≡ mid) × ((sent.status ≡ 200) ⊎ IsSentFor q reply sent) → IsAnswer old q sent new
+  pub folder_answered : (new : Server) → (reply.status ≡ 405) × AsksToSee head → (new ≡ mid) × ((sent.status ≡ 200) ⊎ IsSentFor new q reply sent) → IsAnswer old q sent new
   folder_answered new (status, sees) (is_mid, inl page) =
       let was = folder_leaves (status, sees) in
       subst (IsAnswer old q sent) (sym (is_mid ∙ was)) (shown reply (subst AsksToSee same sees) (subst (IsStepFor q.head q.body (caller_of q) old reply) was step) status page)
-  folder_answered new for_folder (is_mid, inr is_sent) = subst (IsAnswer old q sent) (sym is_mid) (replied reply step is_sent)
+  folder_answered new for_folder (is_mid, inr is_sent) = subst (IsAnswer old q sent) (sym is_mid) (replied reply step (subst (λ (s : Server). IsSentFor s q reply sent) is_mid is_sent))
 
-  pub reply_answered : IsSentFor q reply sent → IsAnswer old q sent mid
+  pub reply_answered : IsSentFor mid q reply sent → IsAnswer old q sent mid
   reply_answered is_sent = replied reply step is_sent
 
 -- ---- what isn't run
@@ -46,6 +48,19 @@ module _ (s : Server) (came : Request) (q : RequestView) (own : (user : List ℕ
   pub not_run_headless : ((r : Request) → ¬ IsHead q.head r) → (n : ℕ) → ¬ IsNotRun s came q n
   not_run_headless none _ (foreign user named unlock) = own user named unlock
   not_run_headless none n (refused kept mine is refuses) = none kept is
+
+-- what is kept of a request has its method
+kept_method : (most : ℕ) (came kept : Request) → IsKeptOf most came kept → kept.method ≡ came.method
+kept_method most came _ (other is_other deep) = refl
+kept_method most came _ (depthless is) = refl
+kept_method most came _ (lock is times decodes) = refl
+
+-- a request whose method is none that may be refused is run
+pub not_run_of : (s : Server) (came : Request) (q : RequestView) → IsKeptFrom came q.head → ¬ MayBeRefused came.method
+    → ((user : List ℕ) → q.principal ≡ Some user → ¬ IsForeignUnlock s.state.locks came user) → (n : ℕ) → ¬ IsNotRun s came q n
+not_run_of s came q from never own _ (foreign user named unlock) = own user named unlock
+not_run_of s came q (most, kept, is_kept, says) never own n (refused mine is_mine is refuses) =
+    never (subst MayBeRefused (ap (λ (r : Request). r.method) (said_of q.head mine kept is says) ∙ kept_method most came kept is_kept) (may_be_refused s mine q.body n refuses))
 
 -- the same, by what was asked of the machine and the request
 pub not_run_from : {at s : Server} {asked q : RequestView} (came kept : Request) (body : List ℕ) → at ≡ s → asked ≡ q

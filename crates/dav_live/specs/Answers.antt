@@ -10,8 +10,10 @@ use Rattle.dav_server.specs.Head.{IsHead, Request}
 use Rattle.dav_server.specs.Server.{Server}
 use Rattle.dav_http.specs.Ending.{IsUnlockHead}
 use Rattle.dav_http.specs.Holders.{NamesOwn}
+use Rattle.dav_http.specs.Kept.{IsKeptOf, Says}
 use Rattle.dav_http.specs.Presented.{IsShown}
 use Rattle.dav_http.specs.Refused.{Refuses}
+use Rattle.dav_http.specs.Room.{room_of}
 use Rattle.dav_http.specs.Sending.{IsSentAs}
 use Rattle.dav_http.specs.Steps.{IsStepFor}
 use Rattle.dav_kept.specs.Records.{RequestView}
@@ -30,15 +32,16 @@ HasMethod method head = (r : Request) × IsHead head r × (r.method ≡ method)
 abbrev pub AsksToSee : List ℕ → Type 0
 AsksToSee head = HasMethod (codes "GET") head ⊎ HasMethod (codes "HEAD") head
 
--- What is sent to a request of a reply to it: what its client is shown; as it is where the bytes of its head are none.
-pub data IsSentFor (q : RequestView) (r : Reply) (sent : Response) : Type 0 where
-  headless : ((h : Request) → ¬ IsHead q.head h) → IsSentAs false r sent → IsSentFor q r sent
-  presented : (h : Request) → IsHead q.head h → IsShown h q.body q.moment r sent → IsSentFor q r sent
+-- What is sent to a request of a reply to it, which leaves this server: what its client is shown, where so many bytes can still be stored as
+-- the front told last; as it is where the bytes of its head are none.
+pub data IsSentFor (s : Server) (q : RequestView) (r : Reply) (sent : Response) : Type 0 where
+  headless : ((h : Request) → ¬ IsHead q.head h) → IsSentAs false r sent → IsSentFor s q r sent
+  presented : (h : Request) → IsHead q.head h → (available : ℕ) → IsShown h q.body q.moment (room_of s available) r sent → IsSentFor s q r sent
 
 -- The response to a request, and the server that is left: the reply of a step of the machine, as it is sent; or, where that is 405 to the
 -- GET or HEAD of a folder, a page of 200 for a person, and then the server is as it was.
 pub data IsAnswer (old : Server) (q : RequestView) (sent : Response) : Server → Type 0 where
-  replied : {new : Server} (r : Reply) → IsStepFor q.head q.body (caller_of q) old r new → IsSentFor q r sent → IsAnswer old q sent new
+  replied : {new : Server} (r : Reply) → IsStepFor q.head q.body (caller_of q) old r new → IsSentFor new q r sent → IsAnswer old q sent new
   shown : (r : Reply) → AsksToSee q.head → IsStepFor q.head q.body (caller_of q) old r old → r.status ≡ 405 → sent.status ≡ 200 → IsAnswer old q sent old
 
 -- a request is an UNLOCK that names a lock of another than this user, or of nobody: knowing its token gives no right to end it (RFC 4918,
@@ -53,6 +56,10 @@ pub data IsNotRun (s : Server) (came : Request) (q : RequestView) : ℕ → Type
   foreign : (user : List ℕ) → q.principal ≡ Some user → IsForeignUnlock s.state.locks came user → IsNotRun s came q 403
   refused : {status : ℕ} (kept : Request) → ((user : List ℕ) → q.principal ≡ Some user → ¬ IsForeignUnlock s.state.locks came user)
       → IsHead q.head kept → Refuses s kept q.body status → IsNotRun s came q status
+
+-- These bytes are the head that is kept of a request that came, whatever the longest time of a lock is.
+abbrev pub IsKeptFrom : Request → List ℕ → Type 0
+IsKeptFrom came head = (most : ℕ) × (kept : Request) × IsKeptOf most came kept × Says head kept
 
 -- The request with this head is the UNLOCK of the first lock of a list whose time ended at this moment or before; none where there is no
 -- such lock (RFC 4918, sections 6.6 and 9.11).

@@ -16,13 +16,15 @@ use bytes::Bytes;
 use dav_core::errors::NoMemory;
 use dav_engine::{Caller, Reply, ReplyBody};
 use dav_http::{
-    HandleError as HttpError, Handler, Head, leaves, method_of, present, send, unlock_head,
+    HandleError as HttpError, Handler, Head, Store, leaves, may_be_refused, method_of, present,
+    send, unlock_head,
 };
 use dav_kept::{Effect, HandleError, Handles, Request};
 use dav_saved::LoadError;
 use http::StatusCode;
 use http_server::Response;
 use std::alloc::Global;
+use std::cell::Cell;
 use std::marker::Model;
 use std::str;
 
@@ -31,6 +33,8 @@ use std::str;
 pub struct Machine {
     alloc: Global,
     handler: Handler,
+    /// How many bytes can still be stored, as the front told last; 0 as long as it told nothing.
+    available: Cell<u64>,
 }
 
 impl Model for Machine {
@@ -106,7 +110,11 @@ impl Machine {
     pub fn new(alloc: Global, handler: Handler) -> Machine
         ensures { result ≡ handler.server }
     {
-        Machine { alloc, handler }
+        Machine {
+            alloc,
+            handler,
+            available: Cell::new(0),
+        }
     }
 }
 
@@ -176,7 +184,8 @@ impl Machine {
             return Ok(false);
         }
         let is_head = is_head(method_of(request.head));
-        show_tree(self.alloc, &reply.body, is_head, response)
+        let prefix = self.handler.prefix();
+        show_tree(self.alloc, &reply.body, prefix, is_head, response)
     }
 }
 
@@ -195,6 +204,7 @@ fn left_only(head: &[u8], reply: Reply) -> Result<Reply, HandleError>
 fn show_tree(
     alloc: Global,
     body: &ReplyBody,
+    prefix: &str,
     is_head: bool,
     response: &mut Response,
 ) -> Result<bool, HandleError>
@@ -203,7 +213,7 @@ fn show_tree(
 {
     match body {
         ReplyBody::Tree(tree) => {
-            page::show(alloc, tree, is_head, response)?;
+            page::show(alloc, tree, prefix, is_head, response)?;
             Ok(true)
         }
         _ => Ok(false),
@@ -245,28 +255,40 @@ fn effect_of(head: &Head<'_>, status: u16) -> Effect
     }
 }
 
-// Fills the response to a request with what its client is shown of a reply.
-fn answer_with(
-    alloc: Global,
-    request: &Request<'_>,
-    reply: Reply,
-    response: &mut Response,
-) -> Result<Effect, HandleError>
-    requires { IsBlank response.old }
-    ensures { IfOk result (λ effect. IsSentFor request.now reply response.new
-        × (effect ≡ Left → Leaves request.now.head reply.status)) }
-{
-    let Some(head) = Head::read(request.head) else {
-        send(alloc, reply, false, response)?;
-        return Ok(Effect::Left);
-    };
-    let effect = effect_of(&head, reply.status.as_u16());
-    let body = request.body.as_slice();
-    present(alloc, &head, body, request.moment, reply, response)?;
-    Ok(effect)
-}
-
 impl Machine {
+    // Fills the response to a request with what its client is shown of a reply.
+    fn answer_with(
+        &self,
+        request: &Request<'_>,
+        reply: Reply,
+        response: &mut Response,
+    ) -> Result<Effect, HandleError>
+        requires { IsBlank response.old }
+        ensures { IfOk result (λ effect. IsSentFor self.now request.now reply response.new
+            × (effect ≡ Left → Leaves request.now.head reply.status)) }
+    {
+        let Some(head) = Head::read(request.head) else {
+            send(self.alloc, reply, false, response)?;
+            return Ok(Effect::Left);
+        };
+        let effect = effect_of(&head, reply.status.as_u16());
+        let store = Store {
+            server: &self.handler,
+            available: self.available.get(),
+        };
+        let body = request.body.as_slice();
+        present(
+            self.alloc,
+            &head,
+            body,
+            request.moment,
+            store,
+            reply,
+            response,
+        )?;
+        Ok(effect)
+    }
+
     // Fills the response to a request for a folder with a page; where there is none with the reply.
     fn answer_folder(
         &mut self,
@@ -276,12 +298,12 @@ impl Machine {
     ) -> Result<Effect, HandleError>
         requires { IsBlank response.old }
         ensures { OnOk result ((self.new ≡ self.old) × ((response.new.status ≡ 200)
-            ⊎ IsSentFor request.now reply response.new)) }
+            ⊎ IsSentFor self.new request.now reply response.new)) }
     {
         if self.show(request, response)? {
             return Ok(Effect::Left);
         }
-        answer_with(self.alloc, request, reply, response)
+        self.answer_with(request, reply, response)
     }
 }
 
@@ -297,7 +319,7 @@ impl Handles for Machine {
         if is_for_folder(request.head, &reply) {
             self.answer_folder(request, reply, response)
         } else {
-            answer_with(self.alloc, request, reply, response)
+            self.answer_with(request, reply, response)
         }
     }
 
@@ -334,6 +356,10 @@ impl Ends for Machine {
         }
     }
 
+    fn see_room(&self, available: u64) {
+        self.available.set(available);
+    }
+
     ghost refuses = { λ server came q status. IsNotRun server came q status };
 
     fn refusal(
@@ -343,6 +369,9 @@ impl Ends for Machine {
     ) -> Result<Option<StatusCode>, NoMemory> {
         if self.is_foreign(head, request.principal) {
             return Ok(Some(StatusCode::FORBIDDEN));
+        }
+        if !may_be_refused(head.method()) {
+            return Ok(None);
         }
         match Head::read(request.head) {
             Some(kept) => self

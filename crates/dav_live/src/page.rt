@@ -266,11 +266,26 @@ fn add_heading(alloc: Global, page: &mut String, address: &str) -> Result<(), Al
     page.push_str("</h1>\n")
 }
 
-// Adds the begin of the page of a folder, with the way up.
-fn add_top(alloc: Global, page: &mut String, address: &str) -> Result<(), AllocError> {
+// Whether an address is that of the folder at the top, which is that of the prefix.
+fn is_top(alloc: Global, address: &str, prefix: &str) -> Result<bool, AllocError> {
+    let mut bytes = Vec::new(alloc);
+    percent_decode(address.as_bytes()).append_to(&mut bytes)?;
+    match str::from_utf8(&bytes) {
+        Ok(path) => Ok(path.trim_end_matches('/') == prefix.trim_end_matches('/')),
+        Err(_) => Ok(false),
+    }
+}
+
+// Adds the begin of the page of a folder, with the way up, where there is one below the prefix.
+fn add_top(
+    alloc: Global,
+    page: &mut String,
+    address: &str,
+    prefix: &str,
+) -> Result<(), AllocError> {
     add_heading(alloc, page, address)?;
     page.push_str(COLUMNS)?;
-    if last_name(address).is_empty() {
+    if is_top(alloc, address, prefix)? {
         return Ok(());
     }
     page.push_str("<tr><td><a href=\"")?;
@@ -312,11 +327,11 @@ fn own_address(alloc: Global, told: &Element) -> Result<String, AllocError> {
     Ok(found.unwrap_or(String::new(alloc)))
 }
 
-// The page of a folder, of what a PROPFIND of it told.
-fn page_of(alloc: Global, told: &Element) -> Result<String, AllocError> {
+// The page of a folder, of what a PROPFIND of it told, where all paths are below a prefix.
+fn page_of(alloc: Global, told: &Element, prefix: &str) -> Result<String, AllocError> {
     let address = own_address(alloc, told)?;
     let mut page = String::new(alloc);
-    add_top(alloc, &mut page, address.as_str())?;
+    add_top(alloc, &mut page, address.as_str(), prefix)?;
     add_members(alloc, &mut page, told, true)?;
     add_members(alloc, &mut page, told, false)?;
     page.push_str("</tbody></table></body></html>\n")?;
@@ -356,16 +371,17 @@ fn number(alloc: Global, n: usize) -> Result<HeaderValue, AllocError> {
     }
 }
 
-/// Fills the response to a GET or HEAD of a folder with a page, of what a PROPFIND of it told.
+/// Fills the response to a GET or HEAD of a folder with a page, of what a PROPFIND of it told. The folder of the prefix has no way up.
 pub fn show(
     alloc: Global,
     told: &Element,
+    prefix: &str,
     is_head: bool,
     response: &mut Response,
 ) -> Result<(), AllocError>
     ensures { OnOk result (response.new.status ≡ 200) }
 {
-    let page = page_of(alloc, told)?;
+    let page = page_of(alloc, told, prefix)?;
     response.status = StatusCode::OK;
     add_fields(alloc, page.len(), is_head, response)?;
     response

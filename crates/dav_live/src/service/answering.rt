@@ -26,6 +26,7 @@ impl<H: Ends + Drop, J: Keeps + Drop> Service<H, J> {
     ghost use Rattle.http_server.specs.Response.{IsBlank, IsResponse};
     ghost use Rattle.dav_server.specs.Head.{IsHead};
     ghost use Rattle.dav_live.specs.Numbered.{HasNumber};
+    ghost use Rattle.dav_live.specs.Answers.{IsKeptFrom};
     ghost use Rattle.dav_live.specs.Admission.{request_in};
     ghost use Rattle.dav_live.specs.Runs.{GoesOn};
     ghost use Rattle.dav_live.specs.Serving.{IsResponseTo, IsRun, StaysAll, admission_of, held_of, kept_of};
@@ -87,6 +88,7 @@ impl<H: Ends + Drop, J: Keeps + Drop> Service<H, J> {
         requires blank { IsBlank response.old }
         requires number { HasNumber (held_of self.old).tokens
             (option_map string_bytes admitted.now.token) }
+        requires kept { IsKeptFrom head.now admitted.now.head.items }
         ensures ran { OnOk result
             (((status : ℕ) × H.refuses (held_of self.old).state head.now
             (request_in (admission_of self.old) admitted.now body.now) status

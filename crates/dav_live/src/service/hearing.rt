@@ -115,6 +115,13 @@ impl<H: Ends + Drop, J: Keeps + Drop> Keeper for Service<H, J> {
         self.take_users(bytes)
     }
 
+    // A report of any other length says nothing.
+    fn hear_room(&self, bytes: &[u8]) {
+        if let Ok(bytes) = <[u8; 8]>::try_from(bytes) {
+            self.kept.handler().see_room(u64::from_le_bytes(bytes));
+        }
+    }
+
     fn hear_address(&mut self, address: &[u8]) -> Result<(), Stop> {
         Ok(self.told.hear_address(address)?)
     }

@@ -25,7 +25,10 @@ PUT /b = x ; MKCOL /z ; PUT /a = x ; MKCOL /c ; PUT /d = x ; GET / -> >c/</a> ; 
 MKCOL /d ; PUT /d/a = x ; MKCOL /d/b ; GET /d/ -> >..</a> ; >b/</a> ; >a</a> ; </table>
 # links are of the whole path, with the prefix
 /p : MKCOL /p/d ; MKCOL /p/d/e ; PUT /p/d/a = x ; GET /p/d/ -> <title>/p/d/</title> ; <a href=\"/p/\">..</a> ; <a href=\"/p/d/e/\">e/</a> ; <a href=\"/p/d/a\">a</a>
-/p/q : PUT /p/q/a = x ; GET /p/q/ -> <title>/p/q/</title> ; <a href=\"/p/q/a\">a</a>
+# the folder of the prefix has no way up
+/p : GET /p/ -> <title>/p/</title> ; !..
+/x y : GET /x%20y/ -> <title>/x y/</title> ; !..
+/p/q : PUT /p/q/a = x ; GET /p/q/ -> <title>/p/q/</title> ; !.. ; <a href=\"/p/q/a\">a</a>
 # characters that mean something in HTML
 PUT /a%26b = x ; GET / -> <a href=\"/a%26b\">a&amp;b</a> ; !a&b
 PUT /%3Cscript%3Ealert(1)%3C%2Fscript%3E = x ; GET / -> !<script>

@@ -15,6 +15,12 @@ run_if_allowed-requires-clause-number g c =
     subst (λ (n : ℕ). HasNumber n (option_map string_bytes c.in-Run.admitted.token)) c.tokens-tokens.ensures
     (number_of a.random c.tokens-tokens.result c.args.head.now.method c.args.asked.now.body (option_map string_bytes c.in-Run.admitted.token) d.0.token)
 
+pub run_if_allowed-requires-clause-kept : goal.run_if_allowed-requires-clause-kept
+run_if_allowed-requires-clause-kept g c =
+    let a = c.args.self.now.admission in
+    let d = subst (IsDecision a c.tokens-tokens.result c.args.head.now c.args.asked.now.body) c.in-Run.is c.in_ok-refused.ensures.decision in
+    (a.lock_time, d.0.kept, d.0.is_kept, d.0.says)
+
 pub returns-in_ok-refuse-in-Refused-clause-responds : goal.returns-in_ok-refuse-in-Refused-clause-responds
 returns-in_ok-refuse-in-Refused-clause-responds g c =
     let a = c.args.self.now.admission in

@@ -1,6 +1,7 @@
 use Rattle.std.proofs.Common.{inl, refl, subst, sym}
 use Rattle.dav_kept.specs.Records.{RequestView}
 use Rattle.dav_live.specs.Admission.{request_in}
+use Rattle.dav_live.specs.Answers.{IsKeptFrom}
 use Rattle.dav_live.specs.Numbered.{HasNumber}
 use Rattle.dav_live.specs.Serving.{admission_of, held_of, kept_of}
 use Rattle.dav_live.proofs.RunLemmas.{goes_on_same}
@@ -30,3 +31,7 @@ returns-in-Some-clause-ran g c =
       record { status = refl; headers = c.requires.blank.headers; body = c.requires.blank.body },
       refl,
     )
+
+pub refusal-requires : goal.refusal-requires
+refusal-requires g c =
+    subst (λ (v : RequestView). IsKeptFrom c.args.head.now v.head) (sym (c.request_in-request.ensures (admission_of c.args.self.now) (sym c.moment.ensures.is))) c.requires.kept
