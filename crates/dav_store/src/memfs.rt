@@ -12,9 +12,9 @@ mod found;
 mod loaded;
 mod passing;
 mod saved;
-mod used;
 #[cfg(test)]
 pub(crate) mod tests;
+mod used;
 
 use crate::entries::{self, Entries, changes, listing};
 use crate::names::{Name, Names};

@@ -8,7 +8,7 @@ ghost use Rattle.dav_turns.specs.Turns.{keeping, server, Counts, Opens, Ends, Go
 use crate::config::TurnsConfig;
 use crate::connection::Connection;
 use crate::frames::{
-    CLOSE, GONE, GOT, HEAD, HELLO, Next, OPENED, READ, Report, ROOM, SENT, TICK, USERS, add_order,
+    CLOSE, GONE, GOT, HEAD, HELLO, Next, OPENED, READ, ROOM, Report, SENT, TICK, USERS, add_order,
     next_in,
 };
 use crate::keeper::{Keeper, TurnError};
