@@ -45,7 +45,15 @@ fn answer(alloc: Global, server: &mut Handler, head: &[u8], body: Bytes) -> Resu
                 server,
                 available: 1_000_000,
             };
-            present(alloc, &read, bytes, caller.moment, store, reply, &mut response)?;
+            present(
+                alloc,
+                &read,
+                bytes,
+                caller.moment,
+                store,
+                reply,
+                &mut response,
+            )?;
         }
         None => send(alloc, reply, false, &mut response)?,
     }

@@ -19,7 +19,7 @@ mod Addressed
 mod HeadTextLemmas
 mod PresentedLemmas
 mod ShownLemmas
-mod RefusedLemmas
+pub mod RefusedLemmas
 mod LeavesLemmas
 mod LeavesSteps
 pub mod OneAnswer

@@ -37,7 +37,7 @@ one_exchange : (head bytes : List ℕ) (who : Caller) (x y : Exchange) (r : Requ
 one_exchange head bytes who x y r is a b =
     let method : b.method ≡ a.method = b.is_method r is ∙ sym (a.is_method r is) in
     let body : x.body ≡ y.body = one_body a.method x.moment bytes x.body y.body a.body
-        (subst (λ (n : ℕ). IsBodyOf a.method n bytes y.body) (b.moment ∙ sym a.moment) (subst (λ (m : List ℕ). IsBodyOf m y.moment bytes y.body) method b.body)) in
+    (subst (λ (n : ℕ). IsBodyOf a.method n bytes y.body) (b.moment ∙ sym a.moment) (subst (λ (m : List ℕ). IsBodyOf m y.moment bytes y.body) method b.body)) in
     let token : x.token ≡ y.token = one_token who.token x.token y.token a.token b.token in
     ap (λ (h : List ℕ). record { head = h; body = x.body; principal = x.principal; moment = x.moment; token = x.token }) (a.head_is ∙ sym b.head_is)
     ∙ ap (λ (t : Body). record { head = y.head; body = t; principal = x.principal; moment = x.moment; token = x.token }) body

@@ -11,8 +11,6 @@ mod holders;
 mod refused;
 mod saved;
 
-pub use refused::may_be_refused;
-
 use crate::head::{Head, takes_tree};
 use crate::owner::with_prefixed_owners;
 use crate::sendable::is_sendable_if_any;
@@ -29,7 +27,7 @@ use dav_server::exchange::{Exchange, GrantToken, LAST_MOMENT, TokenError};
 use dav_store::memfs::MemFs;
 use dav_store::memls::MemLs;
 use dav_xml::XmlError;
-pub use refused::may_be_refused;
+pub use refused::{may_be_refused, may_be_refused};
 use std::alloc::{AllocError, Global};
 use std::marker::Model;
 use thiserror::Error;

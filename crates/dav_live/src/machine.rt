@@ -16,7 +16,8 @@ use bytes::Bytes;
 use dav_core::errors::NoMemory;
 use dav_engine::{Caller, Reply, ReplyBody};
 use dav_http::{
-    HandleError as HttpError, Handler, Head, Store, leaves, may_be_refused, method_of, present, send, unlock_head,
+    HandleError as HttpError, Handler, Head, Store, leaves, may_be_refused, method_of, present,
+    send, unlock_head,
 };
 use dav_kept::{Effect, HandleError, Handles, Request};
 use dav_saved::LoadError;
@@ -276,7 +277,15 @@ impl Machine {
             available: self.available.get(),
         };
         let body = request.body.as_slice();
-        present(self.alloc, &head, body, request.moment, store, reply, response)?;
+        present(
+            self.alloc,
+            &head,
+            body,
+            request.moment,
+            store,
+            reply,
+            response,
+        )?;
         Ok(effect)
     }
 

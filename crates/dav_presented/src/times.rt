@@ -13,14 +13,13 @@ ghost use Rattle.dav_presented.specs.Times as spec;
 mod asked;
 mod told;
 
-pub use asked::{find_as, patch_as};
-pub(crate) use told::{is_own, named_as_set, timed, times_told};
-
 use crate::names::{is_dav, is_in};
+pub use asked::{find_as, patch_as};
 use dav_core::element::Element;
 use dav_core::errors::NoMemory;
 use httpdate::{HttpDate, fmt_http_date};
 use std::alloc::Global;
+pub(crate) use told::{is_own, named_as_set, timed, times_told};
 
 /// The namespace of the properties that are the server's own.
 const OWN_SPACE: &str = "vuldarg:times";
@@ -44,8 +43,7 @@ fn is_time(property: &Element) -> bool
     ensures { result ≡ spec.is_time property.now }
 {
     is_dav(property, "getlastmodified")
-        || (property.name.as_str() == WINDOWS_TIME
-            && is_in(property, "urn:schemas-microsoft-com:"))
+        || (property.name.as_str() == WINDOWS_TIME && is_in(property, "urn:schemas-microsoft-com:"))
 }
 
 // The moment that a date tells.

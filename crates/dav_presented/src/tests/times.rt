@@ -142,14 +142,26 @@ fn tells_kept_times(rt: HostRuntime) -> Result<(), Fail> {
 fn tells_what_was_set(rt: HostRuntime) -> Result<(), Fail> {
     let alloc = rt.alloc();
     for (own, wanted) in [
-        ("{vuldarg:times}getlastmodified:modified", "D:getlastmodified"),
-        ("{vuldarg:times}Win32LastModifiedTime:modified", "Z:Win32LastModifiedTime"),
+        (
+            "{vuldarg:times}getlastmodified:modified",
+            "D:getlastmodified",
+        ),
+        (
+            "{vuldarg:times}Win32LastModifiedTime:modified",
+            "Z:Win32LastModifiedTime",
+        ),
         ("{vuldarg:times}T:modified", "{vuldarg:times}T:modified"),
-        ("{urn:x}getlastmodified:modified", "{urn:x}getlastmodified:modified"),
+        (
+            "{urn:x}getlastmodified:modified",
+            "{urn:x}getlastmodified:modified",
+        ),
         ("D:displayname", "D:displayname"),
     ] {
         let sent = outcomes(alloc, listing(alloc, None, named(alloc, own)?)?)?;
-        assert!(&rt; sent == listing(alloc, None, named(alloc, wanted)?)?, "{own}");
+        assert!(&rt;
+            sent == listing(alloc, None, named(alloc, wanted)?)?,
+            "{own}"
+        );
     }
     Ok(())
 }

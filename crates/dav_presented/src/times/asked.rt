@@ -92,11 +92,7 @@ fn in_prop(alloc: Global, moment: u64, child: XmlNode) -> Result<XmlNode, NoMemo
 }
 
 // The children of a `prop`.
-fn all_in_prop(
-    alloc: Global,
-    moment: u64,
-    children: Vec<XmlNode>,
-) -> Result<Vec<XmlNode>, NoMemory>
+fn all_in_prop(alloc: Global, moment: u64, children: Vec<XmlNode>) -> Result<Vec<XmlNode>, NoMemory>
     requires { moment ≤ last_moment }
     ensures { IfOk result (λ ns. map node_tree ns.items
         ≡ map (spec.set_as moment) (map node_tree children.items)) }
