@@ -27,7 +27,7 @@ use dav_server::exchange::{Exchange, GrantToken, LAST_MOMENT, TokenError};
 use dav_store::memfs::MemFs;
 use dav_store::memls::MemLs;
 use dav_xml::XmlError;
-pub use refused::{may_be_refused, may_be_refused};
+pub use refused::may_be_refused;
 use std::alloc::{AllocError, Global};
 use std::marker::Model;
 use thiserror::Error;
