@@ -43,7 +43,7 @@ module _ (s : Server) (came : Request) (q : RequestView) (own : (user : List ℕ
     where
       by : (n : ℕ) → ¬ IsNotRun s came q n
       by _ (foreign user named unlock) = own user named unlock
-      by n (refused other mine also refuses) = none n (subst (λ (k : Request). Refuses s k q.body n) (one_head q.head other kept also is) refuses)
+      by n (refused another mine also refuses) = none n (subst (λ (k : Request). Refuses s k q.body n) (one_head q.head another kept also is) refuses)
 
   pub not_run_headless : ((r : Request) → ¬ IsHead q.head r) → (n : ℕ) → ¬ IsNotRun s came q n
   not_run_headless none _ (foreign user named unlock) = own user named unlock
