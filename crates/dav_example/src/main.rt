@@ -2,9 +2,6 @@
 //! 9110; RFC 4918).
 #![tactic(auto)]
 
-ghost use Rattle.std.specs.Prelude.{IfOk};
-ghost use Rattle.dav_example.specs.Answer.{IsAnswered};
-
 use anyhow::Result;
 use bytes::{Buf, Bytes};
 use dav_engine::Caller;
@@ -27,10 +24,7 @@ const PROPERTIES: &[u8] =
     b"<propfind xmlns='DAV:'><prop><getcontentlength/><getetag/></prop></propfind>";
 
 // The response to a request that anna makes in September 2001.
-fn answer(alloc: Global, server: &mut Handler, head: &[u8], body: Bytes) -> Result<Response>
-    ensures { IfOk result (λ sent.
-        IsAnswered head.now body server.old.server sent server.new.server) }
-{
+fn answer(alloc: Global, server: &mut Handler, head: &[u8], body: Bytes) -> Result<Response> {
     let caller = Caller {
         principal: Some("anna"),
         moment: 1_000_000_000,
