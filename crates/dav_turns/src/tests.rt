@@ -393,7 +393,7 @@ fn turns_are_served(rt: HostRuntime) -> Result<(), Fail> {
         }
         count = count.saturating_add(1);
     }
-    assert!(rt; count == 44, "{count} rows");
+    assert!(rt; count == 45, "{count} rows");
     Ok(())
 }
 
