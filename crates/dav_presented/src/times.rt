@@ -59,7 +59,8 @@ fn moment_of(date: &[u8]) -> Option<u64>
 
 // The moment that a property tells.
 fn moment_in(alloc: Global, property: &Element) -> Result<Option<u64>, NoMemory>
-    ensures is { IfOk result (λ moment. moment ≡ option_and_then parse_secs (text_of property.now)) }
+    ensures is { IfOk result (λ moment.
+        moment ≡ option_and_then parse_secs (text_of property.now)) }
     ensures date { IfOk result (λ found. IfSome found (λ moment. moment ≤ last_moment)) }
 {
     match property.get_text(alloc)? {
