@@ -1,7 +1,7 @@
 -- Conditions of a request (RFC 9110, section 13; RFC 4918, section 10.4): what its headers say, and whether they hold.
 use Rattle.std.specs.Prelude.{◌≡◌, ◌≢◌, ℕ, ◌==◌, ◌&&◌, Bool, true, false, not, List, [], ◌∷◌, codes, if◌then◌else◌, Option, Some, None, Result, Ok, Err}
 use Rattle.std.specs.Fmt.{digits}
-use Rattle.std.specs.List.{flat_map, list_any, starts_with}
+use Rattle.std.specs.List.{filter_map, flat_map, list_any, starts_with}
 use Rattle.std.specs.Option.{is_some, option_map, unwrap_or}
 use Rattle.std.specs.Result.{result_ok}
 use Rattle.http_header.specs.FieldValue.{FieldValue}
@@ -172,6 +172,11 @@ if_holds (Some ls) = some_holds ls
 abbrev pub submitted : Option (List Addressed) → List (List ℕ)
 submitted None = []
 submitted (Some ls) = flat_map (λ l. tokens_among l.conditions) ls
+
+-- the paths that the lists of an If header speak of, in order; none without the header (RFC 4918, section 10.4.2)
+abbrev pub paths_in : Option (List Addressed) → List Path
+paths_in None = []
+paths_in (Some ls) = filter_map (λ l. l.path) ls
 
 -- ---- all conditions
 

@@ -1,5 +1,6 @@
 //! Conditions (RFC 9110, section 13; RFC 4918, section 10.4).
 ghost use Rattle.std.specs.Prelude.{◌≡◌, ◌≢◌, ◌++◌, ◌∷◌, [], true, Option, Some, None, Result, codes, map, string_bytes, IfOk, OnOk};
+ghost use Rattle.std.specs.List.{filter_map};
 ghost use Rattle.std.specs.Option.{option_map, option_copied};
 ghost use Rattle.http_header.specs.HeaderMap.{get_all};
 ghost use Rattle.dav_core.specs.Path.{names};
@@ -387,6 +388,19 @@ fn submitted(alloc: Global, lists: &Option<Vec<Addressed>>) -> Result<Vec<String
     Ok(tokens)
 }
 
+// Adds the paths that lists speak of.
+fn push_paths(paths: &mut Vec<DavPath>, lists: &[Addressed]) -> Result<(), NoMemory>
+    ensures { OnOk result (map names paths.new.items ≡ map names paths.old.items
+        ++ filter_map (λ l. l.path) (map list_of lists.now)) }
+{
+    for list in lists {
+        if let Some(path) = &list.path {
+            paths.push(path.clone()?)?;
+        }
+    }
+    Ok(())
+}
+
 impl Conditions {
     /// The conditions that the headers of a request state for a path; a header that doesn't decode counts as absent. The
     /// resource tags of If (RFC 4918, section 10.4.1) name paths below the prefix of the request's path.
@@ -403,6 +417,17 @@ impl Conditions {
             if_none_match: none_match_in(alloc, &request.headers)?,
             lists: lists_in(alloc, request, path)?,
         })
+    }
+
+    /// The paths that the lists of If speak of, in order; none without the header (RFC 4918, section 10.4.2).
+    pub fn paths(&self, alloc: Global) -> Result<Vec<DavPath>, NoMemory>
+        ensures { IfOk result (λ paths. map names paths.items ≡ spec.paths_in self.now.lists) }
+    {
+        let mut paths = Vec::new(alloc);
+        if let Some(lists) = &self.lists {
+            push_paths(&mut paths, lists)?;
+        }
+        Ok(paths)
     }
 
     /// Whether only what is there already is to be changed: If-Match is `*`. Allocates nothing.

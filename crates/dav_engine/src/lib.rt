@@ -18,5 +18,6 @@ pub mod reply;
 pub mod request;
 
 pub use davinner::{Backend, Caller, DavInner};
+pub use methods::copy_move::destination_in;
 pub use reply::{Reply, ReplyBody};
 pub use request::{Body, DavRequest};

@@ -40,6 +40,7 @@ use dav_core::fs::{DavFileSystem, DavMetaData};
 use dav_core::ls::DavLockSystem;
 use dav_core::method::DavMethod;
 use dav_headers::Depth;
+pub use headers::destination_in;
 use http::StatusCode;
 use std::alloc::Global;
 

@@ -83,8 +83,8 @@ fn destination_text(alloc: Global, headers: &HeaderMap) -> Result<Option<Destina
     absent_if_invalid(Destination::decode(alloc, &values))
 }
 
-// Where the copy goes.
-fn destination_in(alloc: Global, request: &DavRequest) -> Result<DavResult<DavPath>, NoMemory>
+/// Where a COPY or MOVE with the headers of this request goes, or the error that answers it (RFC 4918, section 10.3).
+pub fn destination_in(alloc: Global, request: &DavRequest) -> Result<DavResult<DavPath>, NoMemory>
     ensures { IfOk result (λ d. spec.DestinationNames request.now.path.prefix
         (get_all request.now.headers (codes "destination")) d) }
 {
