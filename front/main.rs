@@ -7,12 +7,15 @@
 //! A report is `slot u32, kind u8, length u32, seconds u64, date u64, bytes`, an order `slot u32, next u8, length u32, bytes`; numbers
 //! are little-endian. `seconds` are those since the front began, by a clock that nobody sets; `date` those since 1970.
 //!
-//! SIGTERM and Ctrl-C end the core's input: it answers what it has, and ends; then the front does. SIGHUP reports the users again.
+//! SIGTERM and Ctrl-C end the core's input: it answers what it has, and ends; then the front does. SIGHUP reports the users and the rules
+//! of access again, and so does a change of their files.
 #![deny(unsafe_code)]
 
+mod lists;
 mod room;
 mod signals;
 
+use lists::Lists;
 use signals::{HANG_UP, INTERRUPT, Signals, TERMINATE};
 use std::fs::{self, File};
 use std::io::{self, BufReader, ErrorKind, Read, Write};
@@ -63,8 +66,8 @@ const MOST: usize = 65_536;
 /// What the front is told when it begins.
 struct Settings {
     idle: Duration,
-    /// The file of the users, which SIGHUP has read again.
-    users: Option<String>,
+    /// The folder of the users and the rules, which are reported where they change.
+    lists: Option<String>,
     /// The folder on whose disk the state is, of which the room is reported.
     folder: Option<String>,
     /// What is said once the core answers; `{port}` stands for the port.
@@ -249,6 +252,7 @@ fn hand_out(front: &Front, core: impl Read) -> io::Result<()> {
 fn main() {
     let signals = Signals::block(&[HANG_UP, INTERRUPT, TERMINATE]);
     let settings = read_settings();
+    let lists = Arc::new(settings.lists.clone().map(Lists::new));
     let listener = bind(&settings.address);
     let mut command = Command::new(&settings.program);
     command.args(&settings.arguments).stdin(Stdio::piped()).stdout(Stdio::piped());
@@ -259,8 +263,8 @@ fn main() {
     let handing = front.clone();
     thread::spawn(move || end_with_core(&handing, child));
     let hearing = front.clone();
-    let users = settings.users.clone();
-    thread::spawn(move || hear(&hearing, &signals, users.as_deref()));
+    let heard = lists.clone();
+    thread::spawn(move || hear(&hearing, &signals, heard.as_ref().as_ref()));
     let mut random = [0u8; 16];
     File::open("/dev/urandom")
         .and_then(|mut file| file.read_exact(&mut random))
@@ -277,6 +281,9 @@ fn main() {
         while ticking.report(0, TICK, &[]).is_ok() {
             thread::sleep(SECOND);
             ticking.clock.look();
+            if let Some(lists) = lists.as_ref() {
+                report_lists(&ticking, lists.changed());
+            }
             ticks += 1;
             if ticks % MEASURED == 0 {
                 report_room(&ticking, folder.as_deref(), process);
@@ -290,7 +297,7 @@ fn read_settings() -> Settings {
     let mut words = std::env::args().skip(1);
     let mut settings = Settings {
         idle: Duration::from_secs(75),
-        users: None,
+        lists: None,
         folder: None,
         ready: None,
         address: String::new(),
@@ -305,7 +312,7 @@ fn read_settings() -> Settings {
                 Ok(seconds) if seconds > 0 => settings.idle = Duration::from_secs(seconds),
                 _ => usage(),
             },
-            "--users" => settings.users = Some(value),
+            "--lists" => settings.lists = Some(value),
             "--room" => settings.folder = Some(value),
             "--ready" => settings.ready = Some(value),
             _ => usage(),
@@ -373,19 +380,25 @@ fn accept(front: &Arc<Front>, listener: &TcpListener) {
 }
 
 /// Does what the signals ask.
-fn hear(front: &Front, signals: &Signals, users: Option<&str>) {
+fn hear(front: &Front, signals: &Signals, lists: Option<&Lists>) {
     loop {
-        match (signals.next(), users) {
-            (HANG_UP, Some(file)) => match fs::read(file) {
-                Ok(text) if text.len() <= MOST => {
-                    let _ = front.report(0, USERS, &text);
-                }
-                Ok(_) => eprintln!("serve: {file} has more than {MOST} bytes; the users are as they were"),
-                Err(error) => eprintln!("serve: {file}: {error}; the users are as they were"),
-            },
+        match (signals.next(), lists) {
+            (HANG_UP, Some(lists)) => report_lists(front, Some(lists.read())),
             (HANG_UP, None) => {}
             _ => front.end(),
         }
+    }
+}
+
+/// Reports users and rules that were read, or says why they can't be.
+fn report_lists(front: &Front, read: Option<Result<Vec<u8>, String>>) {
+    match read {
+        Some(Ok(text)) if text.len() <= MOST => {
+            let _ = front.report(0, USERS, &text);
+        }
+        Some(Ok(_)) => eprintln!("serve: users and access have more than {MOST} bytes; they are as they were"),
+        Some(Err(why)) => eprintln!("serve: {why}; users and access are as they were"),
+        None => {}
     }
 }
 
@@ -428,7 +441,7 @@ fn begin_again() -> ! {
 }
 
 fn usage() -> ! {
-    eprintln!("usage: front [--idle SECONDS] [--users FILE] [--room FOLDER] [--ready TEXT] ADDRESS:PORT PROGRAM [ARGUMENT..]");
+    eprintln!("usage: front [--idle SECONDS] [--lists FOLDER] [--room FOLDER] [--ready TEXT] ADDRESS:PORT PROGRAM [ARGUMENT..]");
     exit(64)
 }
 

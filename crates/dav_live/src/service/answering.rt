@@ -103,7 +103,7 @@ impl<H: Ends + Drop, J: Keeps + Drop> Service<H, J> {
             (GoesOn H.answers J.is_clean J.kept (kept_of self.old) (kept_of self.new)) }
     {
         let request = request_in(self.admission.moment(), admitted, body);
-        match self.kept.handler().refusal(head, &request)? {
+        match self.kept.handler().refusal(self.admission.rules(), head, &request)? {
             Some(status) => {
                 response.status = status;
                 Ok(())
