@@ -57,9 +57,9 @@ pub data IsNotRun (s : Server) (came : Request) (q : RequestView) : ℕ → Type
   refused : {status : ℕ} (kept : Request) → ((user : List ℕ) → q.principal ≡ Some user → ¬ IsForeignUnlock s.state.locks came user)
       → IsHead q.head kept → Refuses s kept q.body status → IsNotRun s came q status
 
--- These bytes are the head that is kept of a request that came, whatever the longest time of a lock is.
+-- These bytes are the head that is kept of a request that came, whatever the longest time of a lock is, and whatever is left to the machine.
 abbrev pub IsKeptFrom : Request → List ℕ → Type 0
-IsKeptFrom came head = (most : ℕ) × (kept : Request) × IsKeptOf most came kept × Says head kept
+IsKeptFrom came head = (most : ℕ) × (strict : Bool) × (kept : Request) × IsKeptOf most strict came kept × Says head kept
 
 -- The request with this head is the UNLOCK of the first lock of a list whose time ended at this moment or before; none where there is no
 -- such lock (RFC 4918, sections 6.6 and 9.11).

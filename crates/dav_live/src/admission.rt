@@ -108,6 +108,7 @@ impl Model for Admission {
       prefix = string_bytes a.settings.prefix;
       hosts = map string_bytes a.settings.hosts.items;
       lock_time = a.settings.lock_time;
+      strict = a.settings.strict;
       users = a.users;
       moment = a.moment;
       seconds = a.seconds;
@@ -194,6 +195,7 @@ impl Admission {
           prefix = string_bytes settings.prefix;
           hosts = map string_bytes settings.hosts.items;
           lock_time = settings.lock_time;
+          strict = settings.strict;
           users = users;
           moment = min moment last_moment;
           seconds = None;
@@ -276,7 +278,7 @@ impl Admission {
             (request_in self.now admitted body.now)) }
         ensures safe { IfOk result (λ admitted. TellsSafe head.now admitted.only_reads) }
     {
-        let kept = head.kept(self.alloc, self.settings.lock_time)?;
+        let kept = head.kept(self.alloc, self.settings.lock_time, self.settings.strict)?;
         let token = token_for(self.alloc, &self.random, tokens, head, body)?;
         Ok(Admitted {
             head: kept,
