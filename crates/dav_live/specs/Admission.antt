@@ -24,13 +24,14 @@ use Rattle.dav_live.specs.declared.admission.Decision.TheVariants.{Refused, Run}
 use Rattle.dav_live.specs.declared.admission.Reason.{Reason}
 use Rattle.dav_live.specs.declared.admission.Reason.TheVariants.{Misdirected, Unauthorized, Forbidden, TooLong, Outside}
 
--- What a server goes by: the prefix of its paths, the names of its host, the most seconds for which a lock is granted, its users, if it
--- has a list of them, the rules of access, if it has any, the moment, in seconds since 1970, the seconds that the front's steady clock told
--- last, if it did, and the random bytes of its tokens.
+-- What a server goes by: the prefix of its paths, the names of its host, the most seconds for which a lock is granted, whether a PROPFIND
+-- without a Depth is left to the machine, its users, if it has a list of them, the rules of access, if it has any, the moment, in seconds
+-- since 1970, the seconds that the front's steady clock told last, if it did, and the random bytes of its tokens.
 pub record AdmissionView : Type 0 where
   pub prefix : List ℕ
   pub hosts : List (List ℕ)
   pub lock_time : ℕ
+  pub strict : Bool
   pub users : Option (List (List ℕ × List ℕ))
   pub rules : Option Rules
   pub moment : ℕ
@@ -65,7 +66,7 @@ pub record IsLetIn (a : AdmissionView) (r : Request) (user : Option (List ℕ)) 
 
 -- these bytes are the head that is kept of a request, and run
 abbrev pub IsHeadKept : AdmissionView → Request → List ℕ → Type 0
-IsHeadKept a came head = (kept : Request) × IsKeptOf a.lock_time came kept × Says head kept
+IsHeadKept a came head = (kept : Request) × IsKeptOf a.lock_time a.strict came kept × Says head kept
 
 -- by the rules, where there are any, each request with this head has leave, of this user
 abbrev pub HasLeaveIn : AdmissionView → Option (List ℕ) → List ℕ → Type 0
@@ -102,7 +103,7 @@ pub record IsRequestOf (a : AdmissionView) (tokens : ℕ) (came : Request) (body
   pub few : ¬ HasManySlashes came
   pub inside : ¬ IsOutside a.prefix came
   pub kept : Request
-  pub is_kept : IsKeptOf a.lock_time came kept
+  pub is_kept : IsKeptOf a.lock_time a.strict came kept
   pub says : Says q.head kept
   pub leave : HasLeaveIn a q.principal q.head
   pub body_is : q.body ≡ body

@@ -71,9 +71,9 @@ pub data IsNotRun (rules : Option Rules) (s : Server) (came : Request) (q : Requ
   refused : {status : ℕ} (kept : Request) → ¬ IsBarred rules s came q
       → IsHead q.head kept → Refuses s kept q.body status → IsNotRun rules s came q status
 
--- These bytes are the head that is kept of a request that came, whatever the longest time of a lock is.
+-- These bytes are the head that is kept of a request that came, whatever the longest time of a lock is, and whatever is left to the machine.
 abbrev pub IsKeptFrom : Request → List ℕ → Type 0
-IsKeptFrom came head = (most : ℕ) × (kept : Request) × IsKeptOf most came kept × Says head kept
+IsKeptFrom came head = (most : ℕ) × (strict : Bool) × (kept : Request) × IsKeptOf most strict came kept × Says head kept
 
 -- The request with this head is the UNLOCK of the first lock of a list whose time ended at this moment or before; none where there is no
 -- such lock (RFC 4918, sections 6.6 and 9.11).

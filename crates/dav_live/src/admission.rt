@@ -113,6 +113,7 @@ impl Model for Admission {
       prefix = string_bytes a.settings.prefix;
       hosts = map string_bytes a.settings.hosts.items;
       lock_time = a.settings.lock_time;
+      strict = a.settings.strict;
       users = a.users;
       rules = a.rules;
       moment = a.moment;
@@ -206,6 +207,7 @@ impl Admission {
           prefix = string_bytes settings.prefix;
           hosts = map string_bytes settings.hosts.items;
           lock_time = settings.lock_time;
+          strict = settings.strict;
           users = lists.users;
           rules = lists.rules;
           moment = min moment last_moment;
@@ -276,8 +278,8 @@ impl Admission {
         }
     }
 
-    // Whether a request of which this head is kept has leave, of this user.
-    fn has_leave(&self, user: Option<&str>, kept: &[u8]) -> Result<bool, Stop>
+    /// Whether a request has leave of which this head is kept, of this user, or of nobody.
+    pub fn has_leave(&self, user: Option<&str>, kept: &[u8]) -> Result<bool, Stop>
         ensures { IfOk result (λ leave.
             Decides leave (HasLeaveIn self.now (option_copied user.entry) kept.now)) }
     {
@@ -308,7 +310,7 @@ impl Admission {
         if is_outside(self.alloc, head, self.settings.prefix.as_str())? {
             return Ok(refused_of(self.alloc, Reason::Outside, principal));
         }
-        let kept = head.kept(self.alloc, self.settings.lock_time)?;
+        let kept = head.kept(self.alloc, self.settings.lock_time, self.settings.strict)?;
         if !self.has_leave(principal.as_deref(), &kept)? {
             return Ok(refused_of(self.alloc, reason_for(&principal), principal));
         }
@@ -370,7 +372,7 @@ impl Admission {
         principal: Option<String>,
         head: &Head<'_>,
     ) -> Result<Option<(Rejection, String)>, Stop> {
-        let kept = head.kept(self.alloc, self.settings.lock_time)?;
+        let kept = head.kept(self.alloc, self.settings.lock_time, self.settings.strict)?;
         if self.has_leave(principal.as_deref(), &kept)? {
             return Ok(None);
         }

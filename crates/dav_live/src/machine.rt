@@ -22,6 +22,7 @@ use dav_http::{
     send, unlock_head,
 };
 use dav_kept::{Effect, HandleError, Handles, Request};
+use dav_presented::typed::with_types;
 use dav_saved::LoadError;
 use http::StatusCode;
 use http_server::Response;
@@ -218,7 +219,7 @@ impl Machine {
         }
         let is_head = is_head(method_of(request.head));
         let prefix = self.handler.prefix();
-        show_tree(self.alloc, &reply.body, prefix, is_head, response)
+        show_tree(self.alloc, reply.body, prefix, is_head, response)
     }
 }
 
@@ -233,10 +234,10 @@ fn left_only(head: &[u8], reply: Reply) -> Result<Reply, HandleError>
     }
 }
 
-// Fills the response with a page of what a PROPFIND told; false where that is no element tree.
+// Fills the response with a page of what a PROPFIND told, with the times that clients set; false where that is no element tree.
 fn show_tree(
     alloc: Global,
-    body: &ReplyBody,
+    body: ReplyBody,
     prefix: &str,
     is_head: bool,
     response: &mut Response,
@@ -246,7 +247,8 @@ fn show_tree(
 {
     match body {
         ReplyBody::Tree(tree) => {
-            page::show(alloc, tree, prefix, is_head, response)?;
+            let tree = with_types(alloc, tree)?;
+            page::show(alloc, &tree, prefix, is_head, response)?;
             Ok(true)
         }
         _ => Ok(false),

@@ -54,6 +54,7 @@ impl<H: Ends + Drop, J: Keeps + Drop> Service<H, J> {
           prefix = string_bytes settings.prefix;
           hosts = map string_bytes settings.hosts.items;
           lock_time = settings.lock_time;
+          strict = settings.strict;
           users = lists.users;
           rules = lists.rules;
           moment = min (held_of s).latest last_moment;

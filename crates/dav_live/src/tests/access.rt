@@ -112,6 +112,7 @@ fn admission(alloc: Global, lists: Lists) -> Result<Admission, Fail> {
         prefix: String::from_str(alloc, "/dav")?,
         hosts: Vec::new(alloc),
         lock_time: 500,
+        strict: false,
         most_body: 1_000_000,
         most_waiting: 1_000_000,
         short_journal: 1_000_000,
