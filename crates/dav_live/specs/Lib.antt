@@ -12,3 +12,4 @@ pub mod LiveRun
 pub mod Numbered
 pub mod LifePromises
 pub mod SavedRuns
+pub mod Granted
