@@ -1,6 +1,7 @@
 pub mod Line
 pub mod Clock
 pub mod Hosts
+pub mod Rejections
 pub mod Admission
 pub mod Runs
 pub mod Serving
