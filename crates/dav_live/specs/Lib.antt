@@ -2,6 +2,7 @@ pub mod Line
 pub mod Clock
 pub mod Hosts
 pub mod Lists
+pub mod Rejections
 pub mod Admission
 pub mod Runs
 pub mod Serving
