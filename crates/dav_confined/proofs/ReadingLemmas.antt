@@ -1,5 +1,7 @@
 -- What the machine reads in the bytes of a head.
-use Rattle.std.proofs.Common.{◌≡◌, ◌≢◌, ◌⊎◌, ◌↔◌, inl, inr, ℕ, List, codes, IfOk, MatchOption, IsTrue, true, Option, Some, None, Result, Ok, Err, refl, sym, ap, subst, ◌∙◌}
+use Rattle.std.proofs.Common.{◌≡◌, ◌≢◌, ◌⊎◌, ◌↔◌, inl, inr, ℕ, Bool, List, codes, IfOk, MatchOption, IsTrue, true, option_map, [], ◌∷◌, Option, Some, None, Result, Ok, Err, refl, sym, ap, subst, ◌∙◌}
+use Rattle.std.specs.Bool.{Decides}
+use Rattle.std.specs.List.{AllByRecursion}
 use Rattle.dav_core.specs.Locks.{Lock}
 use Rattle.dav_core.specs.Method.{method_name}
 use Rattle.dav_core.specs.Path.{PathText, is_at_or_under, names}
@@ -7,7 +9,7 @@ use Rattle.dav_core.specs.declared.errors.DavError.{DavError}
 use Rattle.dav_core.specs.declared.errors.DavError.TheVariants.{Memory}
 use Rattle.dav_core.specs.declared.method.DavMethod.{DavMethod}
 use Rattle.dav_core.specs.declared.method.DavMethod.TheVariants.{Unlock}
-use Rattle.dav_engine.specs.Guard.{folder_of}
+use Rattle.dav_engine.specs.Guard.{IsListed, IsSameLock, folder_of, listed_here, listed_later}
 use Rattle.dav_engine.specs.Headers.{Decodes, Headers}
 use Rattle.dav_engine.specs.LockToken.{SaysLockToken}
 use Rattle.dav_engine.proofs.LockTokenLemmas.{one_lock_token}
@@ -24,14 +26,14 @@ use Rattle.dav_server.proofs.TargetLemmas.{one_outcome}
 use Rattle.dav_access.specs.Rules.{Rules}
 use Rattle.dav_confined.specs.Asked.{IsUnread}
 use Rattle.dav_confined.specs.ConfinedSteps.{UnlocksLock}
-use Rattle.dav_confined.specs.Leave.{HasLeave}
-use Rattle.dav_confined.specs.Unlocking.{Names, UnlockView}
+use Rattle.dav_confined.specs.Leave.{HasLeave, MayEnd, MayUnlock}
+use Rattle.dav_confined.specs.Unlocking.{MayEndNamed, Names, UnlockView}
 
 pub at_none : {A N : Type 0} (P : A → Type 0) (o : Option A) → o ≡ None → MatchOption o N P → N
 at_none {A} {N} P o e m = subst (λ (t : Option A). MatchOption t N P) e m
 
-pub at_some : {A N : Type 0} (P : A → Type 0) (o : Option A) (a : A) → o ≡ Some a → MatchOption o N P → P a
-at_some {A} {N} P o a e m = subst (λ (t : Option A). MatchOption t N P) e m
+pub at_some : {A : Type 0} (N : Type 0) (P : A → Type 0) (o : Option A) (a : A) → o ≡ Some a → MatchOption o N P → P a
+at_some {A} N P o a e m = subst (λ (t : Option A). MatchOption t N P) e m
 
 -- a target that gives an error names no path
 pub no_path : (prefix target : List ℕ) (m : DavMethod) (e : DavError) → GivesPath prefix m target (Err e) → e ≢ Memory → (p : PathText) → ¬ TargetNames prefix m target (Ok p)
@@ -82,6 +84,12 @@ unread_leave rules s x unread = record {
 
 -- ---- UNLOCK
 
+pub token_said : {A : Type 0} (f : A → List ℕ) (headers : Headers) (o : Option A) (a : A) → o ≡ Some a → Decodes SaysLockToken headers (option_map f o) → SaysLockToken headers (f a)
+token_said {A} f headers o a is says = subst (λ (t : Option A). Decodes SaysLockToken headers (option_map f t)) is says
+
+pub token_unsaid : {A : Type 0} (f : A → List ℕ) (headers : Headers) (o : Option A) → o ≡ None → Decodes SaysLockToken headers (option_map f o) → Decodes SaysLockToken headers None
+token_unsaid {A} f headers o is says = subst (λ (t : Option A). Decodes SaysLockToken headers (option_map f t)) is says
+
 module _ (s : Settings) (x : Exchange) (prefix head : List ℕ) (at : s.prefix ≡ prefix) (is : x.head ≡ head) where
   -- what isn't read names no lock
   pub names_none : IsUnread s x → (l : Lock) → ¬ UnlocksLock s x l
@@ -121,3 +129,24 @@ module _ (s : Settings) (x : Exchange) (prefix head : List ℕ) (at : s.prefix �
         let path : unlocks.path ≡ u.path = let e : Ok unlocks.path ≡ Ok u.path = one_outcome prefix Unlock r.target (Ok unlocks.path) (Ok u.path) to named in cc in
         (one_lock_token headers l.token u.token (says_here l unlocks) says, subst (λ (p : PathText). is_at_or_under (names p) (folder_of l) ≡ true) path unlocks.above),
       )
+
+module _ (rules : Rules) (s : Settings) (x : Exchange) (who : Option (List ℕ)) (same : x.principal ≡ who) (u : UnlockView) (names : (l : Lock) → Names u l ↔ UnlocksLock s x l) where
+  -- a lock that is listed may be ended, where it is named
+  listed_may : (ls : List Lock) → AllByRecursion (MayEndNamed rules who u) ls → (l : Lock) → IsListed l ls → UnlocksLock s x l → MayEnd rules x.principal l
+  listed_may [] all l here unlocks = elim here [ ]
+  listed_may (k ∷ ks) all l (listed_here is) unlocks =
+      let ends : MayEnd rules who k = all.0 (subst (Names u) (sym is) ((names l).1 unlocks)) in
+      subst (λ (o : Option (List ℕ)). MayEnd rules o l) (sym same) (subst (MayEnd rules who) is ends)
+  listed_may (k ∷ ks) all l (listed_later later) unlocks = listed_may ks all.1 l later unlocks
+
+  all_may : (ls : List Lock) → MayUnlock rules s x ls → AllByRecursion (MayEndNamed rules who u) ls
+  all_may [] may = tt
+  all_may (l ∷ ls) may =
+      (λ n. subst (λ (o : Option (List ℕ)). MayEnd rules o l) same (may l (listed_here refl) ((names l).0 n)), all_may ls (λ k here. may k (listed_later here)))
+
+  pub may_by_names : (ls : List Lock) (b : Bool) → Decides b (AllByRecursion (MayEndNamed rules who u) ls) → Decides b (MayUnlock rules s x ls)
+  may_by_names ls b says = (λ yes. listed_may ls (says.0 yes), λ may. says.1 (all_may ls may))
+
+-- where none is named each may be ended
+pub may_nothing : (rules : Rules) (s : Settings) (x : Exchange) (ls : List Lock) → ((l : Lock) → ¬ UnlocksLock s x l) → Decides true (MayUnlock rules s x ls)
+may_nothing rules s x ls none = (λ yes l here unlocks. absurd (none l unlocks), λ may. refl)
