@@ -278,6 +278,14 @@ impl Admission {
         }
     }
 
+    // The head that is run and kept of a request with this head.
+    fn kept_of(&self, head: &Head<'_>) -> Result<Vec<u8>, Stop>
+        ensures { IfOk result (λ kept. IsHeadKept self.now head.now kept.items) }
+    {
+        let (most, strict) = (self.settings.lock_time, self.settings.strict);
+        Ok(head.kept(self.alloc, most, strict)?)
+    }
+
     /// Whether a request has leave of which this head is kept, of this user, or of nobody.
     pub fn has_leave(&self, user: Option<&str>, kept: &[u8]) -> Result<bool, Stop>
         ensures { IfOk result (λ leave.
@@ -310,7 +318,7 @@ impl Admission {
         if is_outside(self.alloc, head, self.settings.prefix.as_str())? {
             return Ok(refused_of(self.alloc, Reason::Outside, principal));
         }
-        let kept = head.kept(self.alloc, self.settings.lock_time, self.settings.strict)?;
+        let kept = self.kept_of(head)?;
         if !self.has_leave(principal.as_deref(), &kept)? {
             return Ok(refused_of(self.alloc, reason_for(&principal), principal));
         }
@@ -372,7 +380,7 @@ impl Admission {
         principal: Option<String>,
         head: &Head<'_>,
     ) -> Result<Option<(Rejection, String)>, Stop> {
-        let kept = head.kept(self.alloc, self.settings.lock_time, self.settings.strict)?;
+        let kept = self.kept_of(head)?;
         if self.has_leave(principal.as_deref(), &kept)? {
             return Ok(None);
         }
