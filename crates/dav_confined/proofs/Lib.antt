@@ -1,10 +1,10 @@
 mod ConfinedPlans
-mod GrantedLemmas
+pub mod GrantedLemmas
 mod LeaveLemmas
 mod ReadingLemmas
 mod SeenGet
 mod SeenLemmas
 mod SeenPropfind
-mod StepsConfined
+pub mod StepsConfined
 mod StepsSeen
 mod StoringPlans

@@ -12,4 +12,5 @@ pub mod Restarts
 pub mod AdmissionLemmas
 mod ClockLemmas
 mod GrantedLemmas
+mod ListsLemmas
 mod UnlockTexts

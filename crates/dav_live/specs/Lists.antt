@@ -1,10 +1,11 @@
 -- The list of users and the rules of access, as they are read together.
-use Rattle.std.specs.Prelude.{◌≡◌, ◌≢◌, ◌⊎◌, ℕ, false, List, [], ◌∷◌, ◌++◌, Contains, Option, Some, None}
+use Rattle.std.specs.Prelude.{◌≡◌, ◌≢◌, ◌⊎◌, ℕ, false, List, [], ◌∷◌, Contains, Option, Some, None}
 use Rattle.std.specs.Str.{IsUtf8}
 use Rattle.dav_access.specs.Reading.{IsReadFault}
 use Rattle.dav_access.specs.Rules.{Rules}
 use Rattle.dav_access.specs.RulesFaults.{IsAccessFault}
 use Rattle.dav_access.specs.RulesText.{AreRulesOf, UserList, has_taken_name}
+use Rattle.dav_access.specs.Texts.{IsSplit}
 use Rattle.dav_access.specs.Users.{ListsUsers}
 use Rattle.dav_access.specs.declared.error.UsersError.{UsersError}
 use Rattle.dav_access.specs.declared.fault.AccessError.{AccessError}
@@ -43,7 +44,7 @@ text_if_any (b ∷ bs) = Some (b ∷ bs)
 -- has the rules.
 pub data AreTexts (report : List ℕ) : Option (List ℕ) → Option (List ℕ) → Type 0 where
   alone : ¬ Contains report 0 → AreTexts report (Some report) None
-  both : (list access : List ℕ) → report ≡ list ++ 0 ∷ access → ¬ Contains list 0 → AreTexts report (text_if_any list) (Some access)
+  both : (list access : List ℕ) → IsSplit 0 report list access → AreTexts report (text_if_any list) (Some access)
 
 -- a report has these users and rules
 abbrev pub Reports : List ℕ → UserList → Option Rules → Type 0

@@ -1,9 +1,11 @@
 //! Who may log in, and who may do what: the list of users and the rules of access, which are taken together or not at all.
-ghost use Rattle.std.specs.Prelude.{◌≡◌, ℕ, List, MatchResult, Some};
+ghost use Rattle.std.specs.Prelude.{◌≡◌, ◌≢◌, ◌==◌, ℕ, [], List, MatchResult, Some};
+ghost use Rattle.std.specs.List.{position};
 ghost use Rattle.std.specs.Option.{option_copied};
 ghost use Rattle.std.specs.Str.{IsUtf8};
 ghost use Rattle.dav_access.specs.Reading.{IsReadFault};
 ghost use Rattle.dav_access.specs.RulesFaults.{IsAccessFault};
+ghost use Rattle.dav_access.specs.Users.{ListsUsers};
 ghost use Rattle.dav_live.specs.Lists.{AreLists, AreRules, AreTexts, AreUsers, IsUnlisted, text_if_any};
 
 use dav_access::{AccessError, Rules, Users, UsersError, file};
@@ -59,17 +61,25 @@ impl From<AccessError> for ListsError {
     }
 }
 
+// The users of a text.
+fn users_of(alloc: Global, text: &[u8]) -> Result<Users, UsersError>
+    ensures { MatchResult result (λ users. ListsUsers text.now users × (users ≢ []))
+        (λ e. IsUtf8 text.now → IsReadFault text.now e) }
+{
+    match str::from_utf8(text) {
+        Ok(text) => Users::read(alloc, text),
+        Err(_) => Err(UsersError::Nobody),
+    }
+}
+
 // The users of a text, if there is one.
 fn users_in(alloc: Global, text: Option<&[u8]>) -> Result<Option<Users>, UsersError>
     ensures { MatchResult result (AreUsers (option_copied text.entry)) (λ e. (t : List ℕ)
         × (option_copied text.entry ≡ Some t) × (IsUtf8 t → IsReadFault t e)) }
 {
-    let Some(text) = text else {
-        return Ok(None);
-    };
-    match str::from_utf8(text) {
-        Ok(text) => Ok(Some(Users::read(alloc, text)?)),
-        Err(_) => Err(UsersError::Nobody),
+    match text {
+        Some(text) => Ok(Some(users_of(alloc, text)?)),
+        None => Ok(None),
     }
 }
 
@@ -105,12 +115,19 @@ impl Lists {
     }
 }
 
+// Where the first byte 0 is.
+fn zero_in(bytes: &[u8]) -> Option<usize>
+    ensures { result ≡ position (λ b. b == 0) bytes.now }
+{
+    bytes.iter().position(|b| *b == 0)
+}
+
 /// The texts of a report: that of the list of users, and, after the first byte 0, that of the rules. Before that there may be nothing, where
 /// there is no list.
 pub fn texts_in(report: &[u8]) -> (Option<&[u8]>, Option<&[u8]>)
     ensures { AreTexts report.now (option_copied result.0) (option_copied result.1) }
 {
-    match report.iter().position(|b| *b == 0) {
+    match zero_in(report) {
         Some(place) => (text_if_any(&report[..place]), Some(&report[place + 1..])),
         None => (Some(report), None),
     }
