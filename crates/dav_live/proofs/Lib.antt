@@ -11,3 +11,5 @@ pub mod FirstDays
 pub mod Restarts
 pub mod AdmissionLemmas
 mod ClockLemmas
+mod GrantedLemmas
+mod UnlockTexts
