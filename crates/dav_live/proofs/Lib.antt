@@ -13,3 +13,4 @@ pub mod AdmissionLemmas
 mod ClockLemmas
 mod GrantedLemmas
 mod UnlockTexts
+mod RejectionLemmas
