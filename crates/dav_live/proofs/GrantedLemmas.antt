@@ -70,10 +70,10 @@ module _ (covered : Path → Bool) where
       subst (Leads s) (sym same) (record { spared = record { same = λ q within. refl; above = λ p q up within folder. folder }; good = good; settings = refl })
 
   leads_on : (a b c : Server) → Leads a b → Leads b c → Leads a c
-  leads_on a b c one two = record {
-    spared = spared_on covered a.state.store.world b.state.store.world c.state.store.world one.spared two.spared;
-    good = two.good;
-    settings = two.settings ∙ one.settings;
+  leads_on a b c first second = record {
+    spared = spared_on covered a.state.store.world b.state.store.world c.state.store.world first.spared second.spared;
+    good = second.good;
+    settings = second.settings ∙ first.settings;
   }
 
   -- whatever the machine gets of a request, it keeps off
@@ -117,7 +117,7 @@ module _ (covered : Path → Bool) where
         leads_on old.state mid.state new.state first (run_leads mid new (own_request moment head) sent ran (own_off mid.state.settings mid.state.locks moment head next) first.good)
 
     ended_leads : (old new : Holding Server) → IsEnded IsAnswer Ends moment old new → IsGood old.state → Leads old.state new.state
-    ended_leads old new (all none same) good = leads_same old.state new.state (ap (λ (h : Holding Server). h.state) same) good
+    ended_leads old new (all never same) good = leads_same old.state new.state (ap (λ (h : Holding Server). h.state) same) good
     ended_leads old new (stuck head sent next ran status) good = run_leads old new (own_request moment head) sent ran (own_off old.state.settings old.state.locks moment head next) good
 
   -- ---- a request
@@ -230,9 +230,9 @@ module _ {D : Type 0} (g : Ghosts D) (covered : Path → Bool) where
   keeps_same s = still s s refl refl
 
   keeps_on : (a b c : S) → Keeps a b → Keeps b c → Keeps a c
-  keeps_on a b c one two sound =
-      let first = one sound in
-      let later = two first.1 in
+  keeps_on a b c here there sound =
+      let first = here sound in
+      let later = there first.1 in
       (spared_on covered (world_of a) (world_of b) (world_of c) first.0 later.0, later.1)
 
   elsewhere_carries : Carries (doing_elsewhere covered g) Keeps
@@ -274,18 +274,18 @@ turns_stay_sound g reports used slots left old new orders turn sound =
 -- ---- what is told
 
 pub replies_stay_in_grants : RepliesStayInGrants
-replies_stay_in_grants rules q r a b after later reply other is permits only alike one two =
-    let x = one.exchange in
-    let same : two.exchange ≡ x = one_exchange q.head q.body (caller_of q) two.exchange x r is two.is_exchange one.is_exchange in
-    let leave : HasLeave rules a.settings x = permits a.settings x refl one.is_exchange.head_is one.is_exchange.principal in
-    let who = one.is_exchange.principal in
+replies_stay_in_grants rules q r a b after later reply other is permits only alike here there =
+    let x = here.exchange in
+    let same : there.exchange ≡ x = one_exchange q.head q.body (caller_of q) there.exchange x r is there.is_exchange here.is_exchange in
+    let leave : HasLeave rules a.settings x = permits a.settings x refl here.is_exchange.head_is here.is_exchange.principal in
+    let who = here.is_exchange.principal in
     let ran : Steps a.settings x a.state.store (Some alike.list) reply after.state.store after.state.locks =
-    subst (λ (l : Locks). Steps a.settings x a.state.store l reply after.state.store after.state.locks) alike.locks one.answers in
+    subst (λ (l : Locks). Steps a.settings x a.state.store l reply after.state.store after.state.locks) alike.locks here.answers in
     let also : Steps a.settings x b.state.store (Some alike.others) other later.state.store later.state.locks =
     subst (λ (s : Settings). Steps s x b.state.store (Some alike.others) other later.state.store later.state.locks) (sym alike.settings)
     (subst (λ (y : Exchange). Steps b.settings y b.state.store (Some alike.others) other later.state.store later.state.locks) same
-    (subst (λ (l : Locks). Steps b.settings two.exchange b.state.store l other later.state.store later.state.locks) alike.other_locks two.answers)) in
+    (subst (λ (l : Locks). Steps b.settings there.exchange b.state.store l other later.state.store later.state.locks) alike.other_locks there.answers)) in
     answers_stay_in_grants rules a.settings x a.state.store after.state.store b.state.store later.state.store alike.list alike.others after.state.locks later.state.locks reply other
-    leave (only x one.is_exchange) (omega (arith, one.is_exchange.moment)) ran also one.ample two.ample alike.refusals alike.world alike.other
+    leave (only x here.is_exchange) (omega (arith, here.is_exchange.moment)) ran also here.ample there.ample alike.refusals alike.world alike.other
     (subst (λ (u : Option (List ℕ)). AgreeAt (may_read rules u) a.state.store.world b.state.store.world) (sym who) alike.agree)
     (subst (λ (u : Option (List ℕ)). CoverAlike (may_read rules u) alike.list alike.others) (sym who) alike.covered)

@@ -14,3 +14,4 @@ mod ClockLemmas
 mod GrantedLemmas
 mod ListsLemmas
 mod UnlockTexts
+mod RejectionLemmas

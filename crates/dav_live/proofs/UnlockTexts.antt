@@ -38,14 +38,17 @@ before_space (a ∷ more) (b ∷ bs) x y one two is =
 
 -- a head that begins with the name and a space has that method
 named_first : (h : RequestHead) (name rest : List ℕ) (blank : List LineEnd) (more : List ℕ) → AllPass is_token_byte h.method → All IsNoSpace name
-    → print_blank blank ++ h.method ++ 32 ∷ more ≡ 85 ∷ name ++ 32 ∷ rest → h.method ≡ 85 ∷ name
+    → ◌≡◌ {A = List ℕ} (print_blank blank ++ h.method ++ 32 ∷ more) (85 ∷ name ++ 32 ∷ rest) → ◌≡◌ {A = List ℕ} h.method (85 ∷ name)
 named_first h name rest [] more token plain is = before_space h.method (85 ∷ name) more rest (no_spaces h.method token) (All-cons IsNoSpace 85 name (λ e. cc) plain) is
-named_first h name rest (crlf ∷ ends) more token plain is = absurd (let e : 13 ≡ 85 = cc in cc)
-named_first h name rest (lf ∷ ends) more token plain is = absurd (let e : 10 ≡ 85 = cc in cc)
+named_first h name rest (crlf ∷ ends) more token plain is = absurd (let e : ◌≡◌ {A = ℕ} 13 85 = cc in cc)
+named_first h name rest (lf ∷ ends) more token plain is = absurd (let e : ◌≡◌ {A = ℕ} 10 85 = cc in cc)
+
+bare : (b : ℕ) (more : List ℕ) → b ≢ 32 → All IsNoSpace more → All IsNoSpace (b ∷ more)
+bare b more other all = All-cons IsNoSpace b more other all
 
 plain_name : All IsNoSpace (78 ∷ 76 ∷ 79 ∷ 67 ∷ 75 ∷ [])
 plain_name =
-    All-cons IsNoSpace 78 _ (λ e. cc) (All-cons IsNoSpace 76 _ (λ e. cc) (All-cons IsNoSpace 79 _ (λ e. cc) (All-cons IsNoSpace 67 _ (λ e. cc) (All-cons IsNoSpace 75 [] (λ e. cc) (All-nil IsNoSpace)))))
+    bare 78 (76 ∷ 79 ∷ 67 ∷ 75 ∷ []) (λ e. cc) (bare 76 (79 ∷ 67 ∷ 75 ∷ []) (λ e. cc) (bare 79 (67 ∷ 75 ∷ []) (λ e. cc) (bare 67 (75 ∷ []) (λ e. cc) (bare 75 [] (λ e. cc) (All-nil IsNoSpace)))))
 
 -- the head of an UNLOCK has the method UNLOCK
 unlock_is_unlock : (path token : List ℕ) (r : Request) → IsHead (unlock_text path token) r → r.method ≡ codes "UNLOCK"
