@@ -114,11 +114,11 @@ module _ (covered : Path → Bool) where
     ends_leads old _ none good = leads_same old.state old.state refl good
     ends_leads old _ (one {mid} {new} head sent so next ran status) good =
         let first = ends_leads old mid so good in
-        leads_on old.state mid.state new.state first (run_leads mid new (own_request moment head) sent ran (own_off mid.state.settings mid.state.locks moment head next) first.good)
+        leads_on old.state mid.state new.state first (run_leads mid new (own_request moment head) sent ran (own_off mid.state.settings mid.state.state.locks moment head next) first.good)
 
     ended_leads : (old new : Holding Server) → IsEnded IsAnswer Ends moment old new → IsGood old.state → Leads old.state new.state
     ended_leads old new (all never same) good = leads_same old.state new.state (ap (λ (h : Holding Server). h.state) same) good
-    ended_leads old new (stuck head sent next ran status) good = run_leads old new (own_request moment head) sent ran (own_off old.state.settings old.state.locks moment head next) good
+    ended_leads old new (stuck head sent next ran status) good = run_leads old new (own_request moment head) sent ran (own_off old.state.settings old.state.state.locks moment head next) good
 
   -- ---- a request
 
