@@ -1,17 +1,22 @@
 -- What becomes of a request.
-use Rattle.std.proofs.Common.{◌≡◌, ◌≢◌, ◌<◌, ◌^◌, ◌↔◌, ◌==◌, ◌∷◌, ℕ, Bool, false, true, IsTrue, arith, IfOk, OnOk, List, [], length, get_or, Option, None, Some, Result, Ok, Err, String, option_map, unwrap_or, codes, inl, inr, refl, sym, subst, string_bytes}
+use Rattle.std.proofs.Common.{◌≡◌, ◌≢◌, ◌<◌, ◌^◌, ◌↔◌, ◌==◌, ◌∷◌, ℕ, Bool, false, true, IsTrue, arith, IfOk, IfSome, OnOk, List, [], length, get_or, Option, None, Some, Result, Ok, Err, String, option_map, unwrap_or, codes, inl, inr, refl, sym, subst, string_bytes}
 use Rattle.std.proofs.lemmas.List.Elements.{All-from_get_or}
 use Rattle.std.proofs.lemmas.Bool.Decides.{nat_tests}
+use Rattle.std.specs.Bool.{Decides}
 use Rattle.std.specs.Global.{Global}
 use Rattle.dav_core.specs.Path.{PathText}
 use Rattle.dav_core.specs.declared.errors.DavError.{DavError}
 use Rattle.dav_core.specs.declared.errors.DavError.TheVariants.{IllegalPath, Memory}
 use Rattle.dav_core.specs.declared.method.DavMethod.TheVariants.{Get}
+use Rattle.dav_engine.specs.declared.request.Body.TheVariants as body
 use Rattle.dav_server.specs.Head.{Request}
+use Rattle.dav_server.specs.Machine.{Exchange, Settings}
+use Rattle.dav_confined.specs.Leave.{HasLeave, Permits}
+use Rattle.dav_access.specs.Rules.{Rules}
 use Rattle.dav_server.specs.Target.{TargetNames}
 use Rattle.dav_server.specs.TargetCode.{GivesPath}
 use Rattle.dav_server.proofs.TargetLemmas.{one_outcome}
-use Rattle.dav_live.specs.Admission.{AdmissionView, IsDecision, IsTokenFor, IsTurnedAway, misdirected, next, unknown}
+use Rattle.dav_live.specs.Admission.{AdmissionView, IsDecision, IsTokenFor, HasLeaveIn, IsTurnedAway, misdirected, next, unknown, users_for}
 use Rattle.dav_live.specs.Hosts.{TellsFor, value_of}
 use Rattle.dav_live.specs.Tokens.{token_text}
 use Rattle.dav_access.specs.Principals.{ShowsNoUser}
@@ -21,25 +26,42 @@ use Rattle.dav_live.specs.declared.admission.Reason.{Reason}
 use Rattle.dav_live.specs.declared.admission.Reason.TheVariants.{Misdirected, Unauthorized}
 use Rattle.dav_live.specs.declared.admission.RefusedRequest.{RefusedRequest}
 
-module _ (a : AdmissionView) (tokens : ℕ) (came : Request) (body : List ℕ) (d : Decision) where
+module _ (a : AdmissionView) (tokens : ℕ) (came : Request) (bytes : List ℕ) (d : Decision) where
   pub turned_away : (x : RefusedRequest) (reason : Reason) (user : List ℕ) → d ≡ Refused x → x.reason ≡ reason → string_bytes x.user ≡ user
-      → IsTurnedAway a came reason user → IsDecision a tokens came body d
+      → IsTurnedAway a came reason user → IsDecision a tokens came bytes d
   turned_away x reason user e reason_is user_is away =
-      subst (IsDecision a tokens came body) (sym e)
+      subst (IsDecision a tokens came bytes) (sym e)
       (subst (λ (r : Reason). IsTurnedAway a came r (string_bytes x.user)) (sym reason_is) (subst (IsTurnedAway a came reason) (sym user_is) away))
 
   pub for_another : (x : RefusedRequest) (hosts : List (List ℕ)) → a.hosts ≡ hosts → d ≡ Refused x → x.reason ≡ Misdirected → string_bytes x.user ≡ []
-      → TellsFor hosts (value_of (codes "host") came) false → IsDecision a tokens came body d
+      → TellsFor hosts (value_of (codes "host") came) false → IsDecision a tokens came bytes d
   for_another x hosts same e reason_is user_is tells =
       turned_away x Misdirected [] e reason_is user_is
       (misdirected (subst (λ (hs : List (List ℕ)). TellsFor hs (value_of (codes "host") came) false) (sym same) tells))
 
   pub of_nobody : (x : RefusedRequest) (hosts : List (List ℕ)) (shown : List ℕ) → a.hosts ≡ hosts → d ≡ Refused x → x.reason ≡ Unauthorized
       → string_bytes x.user ≡ shown → TellsFor hosts (value_of (codes "host") came) true
-      → ShowsNoUser a.users (value_of (codes "authorization") came) shown → IsDecision a tokens came body d
+      → ShowsNoUser (users_for a came) (value_of (codes "authorization") came) shown → IsDecision a tokens came bytes d
   of_nobody x hosts shown same e reason_is user_is tells shows =
       turned_away x Unauthorized shown e reason_is user_is
       (unknown shown (subst (λ (hs : List (List ℕ)). TellsFor hs (value_of (codes "host") came) true) (sym same) tells) shows)
+
+-- ---- leave
+
+-- the request of the machine with this head, of this user
+abbrev pub exchange_with : List ℕ → Option (List ℕ) → Exchange
+exchange_with head who = record { head = head; body = body.None; principal = who; moment = 0; token = None }
+
+-- what is said of each request with a head is said of its leave
+pub leave_by : (a : AdmissionView) (rules : Rules) (user : Option (List ℕ)) (head : List ℕ) (b : Bool) → a.rules ≡ Some rules
+    → ((s : Settings) (x : Exchange) → s.prefix ≡ a.prefix → x.head ≡ head → x.principal ≡ user → IsTrue b ↔ HasLeave rules s x) → Decides b (HasLeaveIn a user head)
+leave_by a rules user head b some says = (
+  λ yes. subst (λ (o : Option Rules). IfSome o (λ (rs : Rules). Permits rs a.prefix user head)) (sym some) (λ s x at is who. (says s x at is who).0 yes),
+  λ leave.
+  let permits : Permits rules a.prefix user head = subst (λ (o : Option Rules). IfSome o (λ (rs : Rules). Permits rs a.prefix user head)) some leave in
+  let s : Settings = record { prefix = a.prefix; allowed = 0 } in
+  (says s (exchange_with head user) refl refl refl).1 (permits s (exchange_with head user) refl refl refl),
+)
 
 -- ---- paths outside of the prefix
 

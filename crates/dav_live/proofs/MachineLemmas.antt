@@ -1,10 +1,9 @@
 -- What the answer of a machine is, by its parts.
-use Rattle.std.proofs.Common.{true, false, not, true≢false, codes, ◌≢◌, ◌≡◌, ◌⊎◌, inl, inr, ℕ, List, Option, Some, None, ap, refl, subst, sym, ◌∙◌}
+use Rattle.std.proofs.Common.{Bool, IfOk, Result, Ok, Err, true, false, not, true≢false, codes, ◌≢◌, ◌≡◌, ◌⊎◌, inl, inr, ℕ, List, Option, Some, None, ap, refl, subst, sym, ◌∙◌}
 use Rattle.std.specs.Bool.{Decides}
 use Rattle.http_server.specs.declared.response.Response.{Response}
 use Rattle.dav_core.specs.declared.method.DavMethod.TheVariants.{Get, Head}
 use Rattle.dav_core.specs.Locks.{Lock}
-use Rattle.dav_engine.specs.declared.request.Body.TheVariants as body
 use Rattle.dav_engine.specs.Reply.{Reply}
 use Rattle.dav_server.specs.Head.{IsHead, Request}
 use Rattle.dav_server.specs.Machine.{Exchange}
@@ -18,6 +17,7 @@ use Rattle.dav_kept.specs.Records.{RequestView}
 use Rattle.dav_http.specs.Kept.{IsKeptOf, depthless, lock, other}
 use Rattle.dav_http.specs.Refused.{MayBeRefused, Refuses, Tells}
 use Rattle.dav_http.proofs.RefusedLemmas.{may_be_refused, said_of}
+use Rattle.dav_live.proofs.AdmissionLemmas.{exchange_with}
 use Rattle.dav_live.specs.Answers.{AsksToSee, IsAnswer, IsBarred, IsForeignUnlock, IsKeptFrom, IsNotRun, IsSentFor, MayUnlockIn, barred, caller_of, refused, replied, shown}
 
 -- a GET or HEAD leaves the server
@@ -79,10 +79,6 @@ not_run_from {at} {s} {asked} {q} rules came kept body same alike own is content
 
 -- ---- UNLOCK by rules
 
--- the request of the machine with this head, of this principal
-exchange_with : List ℕ → Option (List ℕ) → Exchange
-exchange_with head who = record { head = head; body = body.None; principal = who; moment = 0; token = None }
-
 module _ (rules : Rules) (s : Server) (q : RequestView) where
   -- without a list of locks none is named
   pub may_without_list : s.state.locks ≡ None → Decides true (MayUnlockIn rules s q)
@@ -96,6 +92,11 @@ module _ (rules : Rules) (s : Server) (q : RequestView) where
     λ may. (says (exchange_with q.head q.principal) refl refl).1 (may (exchange_with q.head q.principal) ls refl refl is),
   )
 
+  pub may_by_result : {E : Type 0} (ls : List Lock) (r : Result Bool E) → s.state.locks ≡ Some ls
+      → ((x : Exchange) → x.head ≡ q.head → x.principal ≡ q.principal → IfOk r (λ b. Decides b (MayUnlock rules s.settings x ls))) → IfOk r (λ b. Decides b (MayUnlockIn rules s q))
+  may_by_result ls (Ok b) is says = may_by_list ls b is says
+  may_by_result ls (Err e) is says = tt
+
   -- a request that is an UNLOCK is barred where that may not be
   pub barred_unless : (came : Request) (may : Bool) → came.method ≡ codes "UNLOCK" → Decides may (MayUnlockIn rules s q) → Decides (not may) (IsBarred (Some rules) s came q)
   barred_unless came true unlock says = (λ no. absurd (true≢false (sym no)), λ bars. absurd (bars.1 (says.0 refl)))
@@ -103,7 +104,7 @@ module _ (rules : Rules) (s : Server) (q : RequestView) where
 
   -- and no other one is
   pub never_barred : (came : Request) → came.method ≢ codes "UNLOCK" → Decides false (IsBarred (Some rules) s came q)
-  never_barred came other = (λ no. absurd (true≢false (sym no)), λ bars. absurd (other bars.0))
+  never_barred came not_unlock = (λ no. absurd (true≢false (sym no)), λ bars. absurd (not_unlock bars.0))
 
 -- without rules it is a lock of another
 pub barred_by_another : (s : Server) (came : Request) (q : RequestView) (b : Bool) (who : Option (List ℕ)) → who ≡ q.principal

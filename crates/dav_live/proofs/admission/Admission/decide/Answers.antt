@@ -1,7 +1,7 @@
 use Rattle.std.proofs.Common.{◌≡◌, ◌∙◌, List, ℕ, Option, Bool, false, true, map, sym, ap, refl, subst, rules, string_bytes, codes}
 use Rattle.std.specs.Option.{option_copied}
 use Rattle.dav_access.specs.Principals.{IsRefusal, ShowsNoUser}
-use Rattle.dav_live.specs.Admission.{AdmissionView}
+use Rattle.dav_live.specs.Admission.{AdmissionView, users_for}
 use Rattle.dav_live.specs.Hosts.{TellsFor, value_of}
 use Rattle.dav_live.proofs.AdmissionLemmas.{for_another, of_nobody}
 use Rattle.dav_live.proofs.admission.Admission.decide.Goals as goal
@@ -17,11 +17,7 @@ pub returns-in-Err-Unknown-clause-decision : goal.returns-in-Err-Unknown-clause-
 returns-in-Err-Unknown-clause-decision c =
     let hosts : c.args.self.now.hosts ≡ map string_bytes c.deref.result.now =
     sym (ap (λ (a : AdmissionView). a.hosts) c.self.view_is) ∙ ap (map string_bytes) (sym c.deref.ensures.value) in
-    let refusal = c.in-Err-Unknown.ensures.refusal in
-    let told = subst (IsRefusal c.self.inside.users (option_copied c.value.result)) c.in-Err-Unknown.field-0-is refusal in
-    let users : c.self.inside.users ≡ c.args.self.now.users = ap (λ (a : AdmissionView). a.users) c.self.view_is in
-    let shows : ShowsNoUser c.args.self.now.users (value_of (codes "authorization") c.args.head.now) (string_bytes c.in-Err-Unknown.shown) =
-    subst (λ (o : Option (List ℕ)). ShowsNoUser c.args.self.now.users o (string_bytes c.in-Err-Unknown.shown)) c.value.ensures
-    (subst (λ (u : Option (List (List ℕ × List ℕ))). ShowsNoUser u (option_copied c.value.result) (string_bytes c.in-Err-Unknown.shown)) users told) in
+    let shows : ShowsNoUser (users_for c.args.self.now c.args.head.now) (value_of (codes "authorization") c.args.head.now) (string_bytes c.in-Err-Unknown.shown) =
+    subst (IsRefusal (users_for c.args.self.now c.args.head.now) (value_of (codes "authorization") c.args.head.now)) c.in-Err-Unknown.field-0-is c.in-Err-Unknown.ensures.refusal in
     of_nobody c.args.self.now c.args.tokens c.args.head.now c.args.body.now c.refused-in-Err-Unknown.result _ _ _ hosts c.refused-in-Err-Unknown.ensures refl refl
     (subst (TellsFor (map string_bytes c.deref.result.now) (value_of (codes "host") c.args.head.now)) c.if-not-is_for.false c.is_for.ensures) shows
