@@ -125,9 +125,9 @@ module _ (s : Settings) (x : Exchange) (prefix head : List ℕ) (at : s.prefix �
           above = n.1;
         },
         λ unlocks.
-        let to = named_here s x prefix head at is r here Unlock (tt, unlock) unlocks.request Unlock unlocks.path unlocks.to in
-        let path : unlocks.path ≡ u.path = let e : Ok unlocks.path ≡ Ok u.path = one_outcome prefix Unlock r.target (Ok unlocks.path) (Ok u.path) to named in cc in
-        (one_lock_token headers l.token u.token (says_here l unlocks) says, subst (λ (p : PathText). is_at_or_under (names p) (folder_of l) ≡ true) path unlocks.above),
+            let to = named_here s x prefix head at is r here Unlock (tt, unlock) unlocks.request Unlock unlocks.path unlocks.to in
+            let path : unlocks.path ≡ u.path = let e : Ok unlocks.path ≡ Ok u.path = one_outcome prefix Unlock r.target (Ok unlocks.path) (Ok u.path) to named in cc in
+            (one_lock_token headers l.token u.token (says_here l unlocks) says, subst (λ (p : PathText). is_at_or_under (names p) (folder_of l) ≡ true) path unlocks.above),
       )
 
 module _ (rules : Rules) (s : Settings) (x : Exchange) (who : Option (List ℕ)) (same : x.principal ≡ who) (u : UnlockView) (names : (l : Lock) → Names u l ↔ UnlocksLock s x l) where

@@ -58,9 +58,9 @@ pub leave_by : (a : AdmissionView) (rules : Rules) (user : Option (List ℕ)) (h
 leave_by a rules user head b some says = (
   λ yes. subst (λ (o : Option Rules). IfSome o (λ (rs : Rules). Permits rs a.prefix user head)) (sym some) (λ s x at is who. (says s x at is who).0 yes),
   λ leave.
-  let permits : Permits rules a.prefix user head = subst (λ (o : Option Rules). IfSome o (λ (rs : Rules). Permits rs a.prefix user head)) some leave in
-  let s : Settings = record { prefix = a.prefix; allowed = 0 } in
-  (says s (exchange_with head user) refl refl refl).1 (permits s (exchange_with head user) refl refl refl),
+      let permits : Permits rules a.prefix user head = subst (λ (o : Option Rules). IfSome o (λ (rs : Rules). Permits rs a.prefix user head)) some leave in
+      let s : Settings = record { prefix = a.prefix; allowed = 0 } in
+      (says s (exchange_with head user) refl refl refl).1 (permits s (exchange_with head user) refl refl refl),
 )
 
 -- ---- paths outside of the prefix

@@ -174,12 +174,15 @@ module _ {D : Type 0} (g : Ghosts D) (covered : Path → Bool) where
 
   sound_by : (old new : S) → IsSound old → Leads covered (held_of old).state (held_of new).state → (admission_of new).prefix ≡ (admission_of old).prefix
       → Spared covered (world_of old) (world_of new) × IsSound new
-  sound_by old new sound leads prefix = (leads.spared, record {
-    world = leads.good.world;
-    list = leads.good.list;
-    locks = leads.good.locks;
-    prefix = ap (λ (s : Settings). s.prefix) leads.settings ∙ sound.prefix ∙ sym prefix;
-  })
+  sound_by old new sound leads prefix = (
+    leads.spared,
+    record {
+      world = leads.good.world;
+      list = leads.good.list;
+      locks = leads.good.locks;
+      prefix = ap (λ (s : Settings). s.prefix) leads.settings ∙ sound.prefix ∙ sym prefix;
+    },
+  )
 
   still : (old new : S) → (held_of new).state ≡ (held_of old).state → (admission_of new).prefix ≡ (admission_of old).prefix → Keeps old new
   still old new state prefix sound = sound_by old new sound (leads_same covered (held_of old).state (held_of new).state state (good_of old sound)) prefix

@@ -1,6 +1,5 @@
 -- The head by which a lock is ended is that of an UNLOCK.
 use Rattle.std.proofs.Common.{◌⊎◌, inl, inr, Bool, true, ◌≡◌, ◌≢◌, ◌++◌, ◌∷◌, [], List, ℕ, All, IsTrue, codes, refl, sym, subst, ap, true≢false, false, ◌==◌, ◌∙◌}
-
 use Rattle.std.proofs.lemmas.List.{append-nil, append_assoc}
 use Rattle.std.proofs.lemmas.List.Elements.{All-cons, All-head, All-nil, All-tail}
 use Rattle.httparse.specs.Grammar.{AllPass, LineEnd, RequestHead, crlf, is_token_byte, lf, print_blank, print_end, print_request, print_section, print_version}

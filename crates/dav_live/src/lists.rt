@@ -122,7 +122,7 @@ fn zero_in(bytes: &[u8]) -> Option<usize>
     bytes.iter().position(|b| *b == 0)
 }
 
-/// The texts of a report: that of the list of users, and, after the first byte 0, that of the rules. Before that there may be nothing, where
+/// The texts of a report: that of the list of users, and, after the first byte 0, that of the rules. Before that byte nothing stands where
 /// there is no list.
 pub fn texts_in(report: &[u8]) -> (Option<&[u8]>, Option<&[u8]>)
     ensures { AreTexts report.now (option_copied result.0) (option_copied result.1) }

@@ -106,8 +106,7 @@ impl<H: Ends + Drop, J: Keeps + Drop> Service<H, J> {
         match self.admission.hear_users(bytes)? {
             None => Ok(self.told.notice("users and access: read again")?),
             Some(fault) => {
-                let notice =
-                    format!(in self.alloc; "{fault}; users and access are as they were")?;
+                let notice = format!(in self.alloc; "{fault}; users and access are as they were")?;
                 Ok(self.told.notice(notice.as_str())?)
             }
         }
