@@ -1,5 +1,5 @@
 -- A live server leaves the content at paths where nobody who makes a request may write.
-use Rattle.std.proofs.Common.{◌≡◌, ◌≤◌, ◌⊎◌, inl, inr, ℕ, Bool, true, false, IfSome, List, Option, Some, None, refl, sym, ap, subst, ◌∙◌, arith}
+use Rattle.std.proofs.Common.{◌≡◌, ◌≤◌, ◌⊎◌, inl, inr, ℕ, Bool, true, false, IfSome, List, [], ◌∷◌, Option, Some, None, refl, sym, ap, subst, ◌∙◌, arith}
 use Rattle.http_server.specs.declared.response.Response.{Response}
 use Rattle.sqlite_disk.specs.declared.Disk.{Ghosts}
 use Rattle.dav_access.specs.Rules.{Rules, may_read, may_write}
@@ -12,19 +12,20 @@ use Rattle.dav_core.specs.Asking.{StoreState}
 use Rattle.dav_core.specs.Locks.{Lock}
 use Rattle.dav_core.specs.Path.{Path}
 use Rattle.dav_core.specs.World.{IsWorld, World, last_moment}
+use Rattle.dav_core.proofs.Theorems.{empty_is_world}
 use Rattle.dav_engine.specs.Guard.{OnList}
 use Rattle.dav_engine.specs.Plan.{Locks}
 use Rattle.dav_engine.specs.Reply.{Reply}
 use Rattle.dav_engine.specs.Sparing.{AnyList, Spared}
 use Rattle.dav_http.specs.Ending.{IsUnlockHead}
-use Rattle.dav_http.specs.Steps.{IsExchangeOf, IsStepFor}
+use Rattle.dav_http.specs.Steps.{IsExchangeOf, IsStepFor, new_server}
 use Rattle.dav_http.specs.Uploaded.{time_body, time_head}
 use Rattle.dav_http.proofs.OneAnswer.{one_exchange}
 use Rattle.dav_journal.specs.Pair.{IsCleanPair, IsKeptPair}
 use Rattle.dav_journal.specs.declared.pair.Pair.{Pair}
 use Rattle.dav_http.specs.Saved.{IsSaveable, saved_bytes}
-use Rattle.dav_kept.specs.Kept.{Holding, held_by}
-use Rattle.dav_kept.specs.Records.{RequestView}
+use Rattle.dav_kept.specs.Kept.{Holding, RecordsRun, answer_step, held_by}
+use Rattle.dav_kept.specs.Records.{RecordView, RequestView}
 use Rattle.dav_kept.specs.declared.kept.Kept.{Kept}
 use Rattle.dav_server.specs.Head.{IsHead, Request}
 use Rattle.dav_server.specs.Machine.{Exchange, Settings, Steps}
@@ -38,7 +39,7 @@ use Rattle.dav_wire.specs.declared.answer.Asked.{Asked}
 use Rattle.dav_wire.specs.declared.answer.Rejection.{Rejection}
 use Rattle.dav_live.specs.Admission.{AdmissionView, HasLeaveIn, IsLetIn, IsRequestOf}
 use Rattle.dav_live.specs.Answers.{IsAnswer, IsNextEnd, IsNotRun, caller_of}
-use Rattle.dav_live.specs.Granted.{AreAlikeAt, IsKeptOut, IsSound, RepliesStayInGrants, TurnsStayInGrants, TurnsStaySound, doing_elsewhere, world_of}
+use Rattle.dav_live.specs.Granted.{AreAlikeAt, IsKeptOut, IsSound, LivesAreSound, RepliesStayInGrants, TurnsStayInGrants, TurnsStaySound, doing_elsewhere, world_of}
 use Rattle.dav_live.specs.LiveRun.{doing}
 use Rattle.dav_live.specs.Runs.{Commits, Saves, StaysKept}
 use Rattle.dav_live.specs.Serving.{EndsLocks, IsCommitted, IsEnded, IsGreeted, IsListed, IsMarked, IsPassed, IsResponseTo, IsRun, IsRunWhole, IsTimed, Serves, StaysAll, admission_of, all, anew, answered, belonging_to, full, held_of, kept_of, no_head, none, not_run, one, own_request, refused, run, stuck, told, turned_away, untold, without_leave}
@@ -273,6 +274,22 @@ nothing_carries g = record {
 pub turns_stay_sound : {D : Type 0} (g : Ghosts D) → TurnsStaySound g
 turns_stay_sound g reports used slots left old new orders turn sound =
     (turn_carries (doing g) (Keeps g (λ q. false)) (nothing_carries g) reports used slots left old new orders turn sound).1
+
+-- ---- a life
+
+nothing_off : (s : Settings) (q : RequestView) → Off (λ p. false) s q
+nothing_off s q x at who = record { target = λ r m p to changes k below. refl; destination = λ r m p d to copies named k below. refl }
+
+lives_lead : (first last : Server) (records : List RecordView) → RecordsRun (answer_step IsAnswer) first records last → IsGood first → Leads (λ p. false) first last
+lives_lead first last [] same good = leads_same (λ p. false) first last same good
+lives_lead first last (r ∷ rs) (mid, (sent, status, is), later) good =
+    let begins = answer_leads (λ p. false) first mid r.request sent is (nothing_off first.settings r.request) good in
+    leads_on (λ p. false) first mid last begins (lives_lead mid last rs later begins.good)
+
+pub lives_are_sound : LivesAreSound
+lives_are_sound prefix records last ran =
+    let leads = lives_lead (new_server prefix) last records ran (record { world = empty_is_world 1 (omega arith) (omega arith); list = []; locks = refl }) in
+    (leads.good.world, (leads.good.list, leads.good.locks), ap (λ (s : Settings). s.prefix) leads.settings)
 
 -- ---- what is told
 

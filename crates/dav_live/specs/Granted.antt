@@ -12,9 +12,10 @@ use Rattle.dav_core.specs.Path.{Path}
 use Rattle.dav_core.specs.World.{IsWorld, World}
 use Rattle.dav_engine.specs.Reply.{Reply}
 use Rattle.dav_engine.specs.Sparing.{Spared}
-use Rattle.dav_http.specs.Steps.{IsExchangeOf, IsStepFor}
+use Rattle.dav_http.specs.Steps.{IsExchangeOf, IsStepFor, new_server}
 use Rattle.dav_journal.specs.declared.pair.Pair.{Pair}
-use Rattle.dav_kept.specs.Records.{RequestView}
+use Rattle.dav_kept.specs.Kept.{RecordsRun, answer_step}
+use Rattle.dav_kept.specs.Records.{RecordView, RequestView}
 use Rattle.dav_server.specs.Head.{IsHead, Request}
 use Rattle.dav_server.specs.Machine.{Exchange}
 use Rattle.dav_server.specs.Server.{Server}
@@ -23,7 +24,7 @@ use Rattle.dav_turns.specs.Frames.{Order}
 use Rattle.dav_turns.specs.Turns.{Keeping, Turn, keeping}
 use Rattle.dav_wire.specs.declared.answer.Asked.{Asked}
 use Rattle.dav_live.specs.Admission.{AdmissionView, IsLetIn}
-use Rattle.dav_live.specs.Answers.{caller_of}
+use Rattle.dav_live.specs.Answers.{IsAnswer, caller_of}
 use Rattle.dav_live.specs.LiveRun.{doing}
 use Rattle.dav_live.specs.Serving.{admission_of, held_of}
 use Rattle.dav_live.specs.declared.service.Service.{Service}
@@ -32,13 +33,19 @@ use Rattle.dav_live.specs.declared.service.Service.{Service}
 abbrev pub world_of : {J : Type 0} → Service Server J → World
 world_of s = (held_of s).state.state.store.world
 
--- A live server holds a world and a list of locks, and its paths are below the prefix by which requests are let in. So it is from its first
--- day on.
+-- A live server holds a world and a list of locks, and its paths are below the prefix by which requests are let in.
 pub record IsSound {J : Type 0} (s : Service Server J) : Type 0 where
   pub world : IsWorld (world_of s)
   pub list : List Lock
   pub locks : (held_of s).state.state.locks ≡ Some list
   pub prefix : (held_of s).state.settings.prefix ≡ (admission_of s).prefix
+
+-- So it is on each day of its life: each run of records from the new server of a prefix leaves one that holds a world and a list of locks,
+-- below this prefix.
+abbrev pub LivesAreSound : Type 0
+LivesAreSound =
+    (prefix : List ℕ) (records : List RecordView) (last : Server) → RecordsRun (answer_step IsAnswer) (new_server prefix) records last
+    → IsWorld last.state.store.world × ((list : List Lock) × (last.state.locks ≡ Some list)) × (last.settings.prefix ≡ prefix)
 
 -- ---- what is changed
 

@@ -1,6 +1,6 @@
 //! Laws of a live server.
 ghost use Rattle.dav_live.specs.Clock.{ClocksDontJump};
-ghost use Rattle.dav_live.specs.Granted.{RepliesStayInGrants, TurnsStayInGrants, TurnsStaySound};
+ghost use Rattle.dav_live.specs.Granted.{LivesAreSound, RepliesStayInGrants, TurnsStayInGrants, TurnsStaySound};
 ghost use Rattle.dav_live.specs.Life.{FirstDaysBegin, RestartsChangeNothing, RestartsGoOn, RunsAreTheMachines};
 ghost use Rattle.dav_live.specs.LifePromises.{LivesKeepPromises};
 ghost use Rattle.dav_live.specs.Tokens.{TokensDiffer};
@@ -53,6 +53,11 @@ pub fn restarts_go_on<J: Keeps>()
 pub fn turns_stay_in_grants<D: Disk>()
     ensures elsewhere { TurnsStayInGrants D.Disk }
     ensures sound { TurnsStaySound D.Disk }
+{}
+
+/// Each run of records from a new server leaves a sound one: so a server is sound from its first day on, over each restart.
+pub fn lives_are_sound()
+    ensures { LivesAreSound }
 {}
 
 /// The reply to a request with leave that only reads, of a path that its user may read, tells of what he may read, and of the locks that
