@@ -63,6 +63,9 @@ const MEASURED: u64 = 5;
 /// The most bytes of a report.
 const MOST: usize = 65_536;
 
+/// The bytes of a report that come before its own.
+const HEAD: usize = 25;
+
 /// What the front is told when it begins.
 struct Settings {
     idle: Duration,
@@ -144,16 +147,22 @@ impl Front {
     }
 
     fn report(&self, slot: usize, kind: u8, bytes: &[u8]) -> io::Result<()> {
-        let mut frame = Vec::with_capacity(25 + bytes.len());
-        frame.extend_from_slice(&(slot as u32).to_le_bytes());
-        frame.push(kind);
-        frame.extend_from_slice(&(bytes.len() as u32).to_le_bytes());
-        let mut core = self.core.lock().unwrap();
-        frame.extend_from_slice(&self.clock.seconds().to_le_bytes());
-        frame.extend_from_slice(&date().to_le_bytes());
+        let mut frame = vec![0u8; HEAD];
         frame.extend_from_slice(bytes);
+        self.report_frame(slot, kind, &mut frame)
+    }
+
+    /// Reports the bytes of a frame that come after the room for its head.
+    fn report_frame(&self, slot: usize, kind: u8, frame: &mut [u8]) -> io::Result<()> {
+        let len = (frame.len() - HEAD) as u32;
+        frame[..4].copy_from_slice(&(slot as u32).to_le_bytes());
+        frame[4] = kind;
+        frame[5..9].copy_from_slice(&len.to_le_bytes());
+        let mut core = self.core.lock().unwrap();
+        frame[9..17].copy_from_slice(&self.clock.seconds().to_le_bytes());
+        frame[17..25].copy_from_slice(&date().to_le_bytes());
         match &mut *core {
-            Some(input) => input.write_all(&frame),
+            Some(input) => input.write_all(frame),
             None => Err(ErrorKind::BrokenPipe.into()),
         }
     }
@@ -187,7 +196,7 @@ impl Front {
         let _ = stream.set_write_timeout(Some(self.idle));
         let peer = stream.peer_addr().map_or(String::new(), |address| address.ip().to_string());
         self.report(slot, OPENED, peer.as_bytes())?;
-        let mut piece = vec![0u8; PIECE];
+        let mut frame = vec![0u8; HEAD + PIECE];
         while let Ok(order) = orders.recv() {
             if order.next == CLOSE {
                 self.free(slot); // the core has let it go
@@ -199,12 +208,12 @@ impl Front {
             let written = (&stream).write_all(&order.bytes);
             self.writing.fetch_sub(1, Ordering::SeqCst);
             let done = match written {
-                Ok(()) if order.next == READ => (&stream).read(&mut piece).map(|count| (GOT, count)),
+                Ok(()) if order.next == READ => (&stream).read(&mut frame[HEAD..]).map(|count| (GOT, count)),
                 Ok(()) => Ok((SENT, 0)),
                 Err(error) => Err(error),
             };
             match done {
-                Ok((kind, count)) => self.report(slot, kind, &piece[..count])?,
+                Ok((kind, count)) => self.report_frame(slot, kind, &mut frame[..HEAD + count])?,
                 Err(_) => {
                     self.report(slot, GONE, &[])?;
                     self.free(slot);
