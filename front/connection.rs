@@ -19,9 +19,12 @@ const HEAD_TIME: Duration = Duration::from_secs(10);
 /// The time in which a client may read what was sent last, though it may still be sending.
 const LINGER: Duration = Duration::from_secs(2);
 
-/// What the core may order to be done after the bytes were written; 0: say that they were.
+/// What the core may order to be done after the bytes were written: to say that they were; to read, where nothing of a request came, a
+/// part of a head, or a head whose body isn't whole; or to close.
+const TELL: u8 = 0;
 const READ: u8 = 1;
 const CLOSE: u8 = 2;
+const READ_BODY: u8 = 4;
 
 /// What is reported of a connection.
 pub const OPENED: u8 = 1;
@@ -43,28 +46,34 @@ pub struct Times {
     pub piece: Duration,
 }
 
-/// What of a request came since something was last sent, and how long the rest of its piece was waited for.
-#[derive(Default)]
+/// What the client is waited for: a request, the rest of a head, or a piece of a body, of which so many bytes came in so long a time.
 struct Coming {
+    what: u8,
     bytes: usize,
     waited: Duration,
 }
 
 impl Coming {
+    fn new(what: u8) -> Coming {
+        Coming { what, bytes: 0, waited: Duration::ZERO }
+    }
+
     /// How long the client may still be waited for.
     fn left(&self, times: Times) -> Duration {
-        match self.bytes {
-            0 => times.idle,
-            1..PIECE => HEAD_TIME.saturating_sub(self.waited),
-            _ => times.piece.saturating_sub(self.waited),
-        }
+        let time = match self.what {
+            READ => times.idle,
+            READ_BODY => times.piece,
+            _ => HEAD_TIME,
+        };
+        time.saturating_sub(self.waited)
     }
 
     /// So many bytes came after so long.
     fn add(&mut self, bytes: usize, waited: Duration) {
-        let is_next = self.bytes == 0 || self.bytes / PIECE < (self.bytes + bytes) / PIECE;
-        self.waited = if is_next { Duration::ZERO } else { self.waited + waited };
-        self.bytes += bytes;
+        (self.bytes, self.waited) = (self.bytes + bytes, self.waited + waited);
+        if self.what == READ_BODY && self.bytes >= PIECE {
+            *self = Coming::new(READ_BODY);
+        }
     }
 }
 
@@ -113,7 +122,7 @@ pub struct Connection<'f> {
 
 impl Connection<'_> {
     pub fn new<'f>(front: &'f Front, slot: usize, stream: &'f TcpStream) -> Connection<'f> {
-        Connection { front, slot, stream, coming: Coming::default(), piece: Vec::new() }
+        Connection { front, slot, stream, coming: Coming::new(READ), piece: Vec::new() }
     }
 
     /// Carries out orders until there are no more. The slot is free then.
@@ -148,15 +157,18 @@ impl Connection<'_> {
     /// Sends the bytes of an order, and reads where that is ordered: what is to be reported.
     fn carry_out(&mut self, order: &Order) -> io::Result<(u8, usize)> {
         self.send(&order.bytes)?;
-        if !order.bytes.is_empty() {
-            self.coming = Coming::default();
+        if order.next == TELL {
+            return Ok((SENT, 0));
         }
-        if order.next == READ { Ok((GOT, self.read()?)) } else { Ok((SENT, 0)) }
+        if order.next == READ || order.next != self.coming.what || !order.bytes.is_empty() {
+            self.coming = Coming::new(order.next);
+        }
+        Ok((GOT, self.read()?))
     }
 
-    /// Reads once. While nothing of a request came the connection may be told to go.
+    /// Reads once. A connection that waits for a request may be told to go.
     fn read(&mut self) -> io::Result<usize> {
-        let is_idle = self.coming.bytes == 0;
+        let is_idle = self.coming.what == READ;
         if is_idle && !self.front.slots.set_idle(self.slot, true) {
             return Err(ErrorKind::ConnectionAborted.into());
         }

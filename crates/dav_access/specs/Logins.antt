@@ -1,0 +1,51 @@
+-- Which logins were wrong, and how long the next one waits before its password is checked (RFC 6585,
+-- section 4).
+use Rattle.std.specs.Prelude.{◌&&◌, ◌||◌, ℕ, ◌-◌, nat_lt, Bool, true, false, List, [], ◌∷◌, ◌++◌, bytes_eq, count_by, take, if◌then◌else◌}
+use Rattle.std.specs.List.{filter}
+use Rattle.sha2.specs.Sha256.{sha256}
+use Rattle.dav_access.specs.declared.logins.WrongLogin.{WrongLogin}
+
+-- Where the next login comes from, the logins that were wrong, and whether one was in this turn.
+pub record LoginsView : Type 0 where
+  pub address : List ℕ
+  pub wrong : List WrongLogin
+  pub is_busy : Bool
+
+-- none was wrong
+abbrev pub no_logins : LoginsView
+no_logins = record { address = []; wrong = []; is_busy = false }
+
+-- a wrong login is of the last minute
+abbrev pub is_recent : ℕ → WrongLogin → Bool
+is_recent now w = nat_lt (now - w.seconds) 60
+
+-- it is, and it was of this name; it is, and it came from this address
+abbrev pub is_of : ℕ → List ℕ → WrongLogin → Bool
+is_of now name w = is_recent now w && bytes_eq w.name (sha256 name)
+
+abbrev pub is_from : ℕ → List ℕ → WrongLogin → Bool
+is_from now address w = is_recent now w && bytes_eq w.address (sha256 address)
+
+-- Of the last minute are five wrong logins of this name, or five from where the next one comes from,
+-- or 1,024 in all.
+abbrev pub are_many : LoginsView → List ℕ → ℕ → Bool
+are_many l name now =
+    nat_lt 4 (count_by (is_of now name) l.wrong)
+    || (nat_lt 4 (count_by (is_from now l.address) l.wrong)
+    || nat_lt 1023 (count_by (is_recent now) l.wrong))
+
+-- For so many seconds a login of this name waits before its password is checked: a minute after many
+-- wrong ones; a second after one in this turn; and else it doesn't.
+abbrev pub wait_of : LoginsView → List ℕ → ℕ → ℕ
+wait_of l name now = if are_many l name now then 60 else if l.is_busy then 1 else 0
+
+-- a wrong login of this name, at this time
+abbrev pub wrong_login : LoginsView → List ℕ → ℕ → WrongLogin
+wrong_login l name now = record { name = sha256 name; address = sha256 l.address; seconds = now }
+
+-- after it: those of the last minute and this one, of which the first 1,024 are known
+abbrev pub after_wrong : LoginsView → List ℕ → ℕ → LoginsView
+after_wrong l name now = record l {
+  wrong = take 1024 (filter (is_recent now) l.wrong ++ wrong_login l name now ∷ []);
+  is_busy = true;
+}

@@ -1,0 +1,193 @@
+//! Logins that were wrong, and who has to wait for the check of a password.
+ghost use Rattle.std.specs.Prelude.{◌≡◌, ◌&&◌, ◌||◌, ◌++◌, ◌∷◌, [], OnOk, bytes_eq, count_by, nat_lt, take};
+ghost use Rattle.std.specs.List.{filter};
+ghost use Rattle.dav_access.specs.Logins.{is_recent};
+
+use sha2::{Digest, Sha256};
+use std::alloc::{AllocError, Global};
+use std::marker::Model;
+
+/// Past so many wrong logins of one name, or from one address, within a minute, further ones wait.
+const FEW: usize = 4;
+
+/// So many wrong logins are known; within a minute there are no more.
+const MOST: usize = 1024;
+
+const MINUTE: u64 = 60;
+
+/// A wrong login: the SHA-256 of the name and of the address that it came from, and when, in the
+/// seconds of a clock that goes on steadily.
+#[derive(Clone, Copy, Debug, PartialEq, Eq)]
+pub struct WrongLogin {
+    pub name: [u8; 32],
+    pub address: [u8; 32],
+    pub seconds: u64,
+}
+
+/// The logins that were wrong within the last minute, at most 1,024.
+#[derive(Drop)]
+pub struct Logins {
+    address: Vec<u8>,
+    wrong: Vec<WrongLogin>,
+    is_busy: bool,
+}
+
+impl Model for Logins {
+    ghost use Rattle.dav_access.specs.Logins.{LoginsView};
+
+    ghost Value = { LoginsView };
+
+    ghost view = { λ l. record {
+      address = l.address.items;
+      wrong = l.wrong.items;
+      is_busy = l.is_busy;
+    } };
+}
+
+// Whether a wrong login is of the last minute.
+fn is_recent(login: &WrongLogin, now: u64) -> bool
+    ensures { result ≡ is_recent now login.now }
+{
+    now.saturating_sub(login.seconds) < MINUTE
+}
+
+// Whether it is, and is of the name with this digest.
+fn is_of(login: &WrongLogin, name: &[u8; 32], now: u64) -> bool
+    ensures { result ≡ (is_recent now login.now && bytes_eq login.now.name name.now) }
+{
+    is_recent(login, now) && login.name.as_slice() == name.as_slice()
+}
+
+// Whether it is, and came from the address with this digest.
+fn is_from(login: &WrongLogin, address: &[u8; 32], now: u64) -> bool
+    ensures { result ≡ (is_recent now login.now && bytes_eq login.now.address address.now) }
+{
+    is_recent(login, now) && login.address.as_slice() == address.as_slice()
+}
+
+// How many wrong logins of the last minute there are.
+fn count_recent(wrong: &[WrongLogin], now: u64) -> usize
+    ensures { result ≡ count_by (is_recent now) wrong.now }
+{
+    wrong.iter().filter(|w| is_recent(w, now)).count()
+}
+
+// How many of them are of the name with this digest.
+fn count_of(wrong: &[WrongLogin], name: &[u8; 32], now: u64) -> usize
+    ensures { result
+        ≡ count_by (λ w. is_recent now w && bytes_eq w.name name.now) wrong.now }
+{
+    wrong.iter().filter(|w| is_of(w, name, now)).count()
+}
+
+// How many of them came from the address with this digest.
+fn count_from(wrong: &[WrongLogin], address: &[u8; 32], now: u64) -> usize
+    ensures { result
+        ≡ count_by (λ w. is_recent now w && bytes_eq w.address address.now) wrong.now }
+{
+    wrong.iter().filter(|w| is_from(w, address, now)).count()
+}
+
+// Whether so many wrong logins of a name, from an address, and in all are many.
+fn are_many(of_name: usize, from_address: usize, all: usize) -> bool
+    ensures { result ≡ (nat_lt 4 of_name || (nat_lt 4 from_address || nat_lt 1023 all)) }
+{
+    of_name > FEW || from_address > FEW || all >= MOST
+}
+
+// Forgets the wrong logins before the last minute, and adds one.
+fn remember(wrong: &mut Vec<WrongLogin>, login: WrongLogin, now: u64) -> Result<(), AllocError>
+    ensures { OnOk result (wrong.new.items
+        ≡ take 1024 (filter (is_recent now) wrong.old.items ++ login ∷ [])) }
+{
+    forget(wrong, now);
+    wrong.push(login)?;
+    wrong.truncate(MOST);
+    Ok(())
+}
+
+// Forgets the wrong logins before the last minute.
+fn forget(wrong: &mut Vec<WrongLogin>, now: u64)
+    ensures { wrong.new.items ≡ filter (is_recent now) wrong.old.items }
+{
+    wrong.retain(|w| is_recent(w, now));
+}
+
+impl Logins {
+    ghost use Rattle.std.specs.Prelude.{◌≡◌, OnOk, false};
+    ghost use Rattle.dav_access.specs.Logins.{after_wrong, are_many, no_logins, wait_of, wrong_login};
+
+    /// None was wrong.
+    pub fn new(alloc: Global) -> Logins
+        ensures { result ≡ no_logins }
+    {
+        Logins {
+            address: Vec::new(alloc),
+            wrong: Vec::new(alloc),
+            is_busy: false,
+        }
+    }
+
+    /// The logins that follow come from this address.
+    pub fn hear_address(&mut self, address: &[u8]) -> Result<(), AllocError>
+        ensures { OnOk result (self.new ≡ record self.old { address = address.now }) }
+    {
+        self.address.clear();
+        self.address.extend_from_slice(address)
+    }
+
+    /// For how many seconds a login of this name waits at this time, in seconds, before its password
+    /// is checked: 60 where five were wrong within the last minute of that name, or five from the
+    /// address that was heard last, or 1,024 in all; 1 where one was wrong in this turn; else 0.
+    pub fn wait_of(&self, name: &[u8], now: u64) -> u64
+        ensures { result ≡ wait_of self.now name.now now }
+    {
+        if self.are_many(name, now) {
+            MINUTE
+        } else if self.is_busy {
+            1
+        } else {
+            0
+        }
+    }
+
+    // Whether there were many wrong logins within the last minute.
+    fn are_many(&self, name: &[u8], now: u64) -> bool
+        ensures { result ≡ are_many self.now name.now now }
+    {
+        are_many(
+            count_of(&self.wrong, &Sha256::digest(name), now),
+            count_from(&self.wrong, &Sha256::digest(&self.address), now),
+            count_recent(&self.wrong, now),
+        )
+    }
+
+    // A wrong login of this name.
+    fn wrong_login(&self, name: &[u8], now: u64) -> WrongLogin
+        ensures { result ≡ wrong_login self.now name.now now }
+    {
+        WrongLogin {
+            name: Sha256::digest(name),
+            address: Sha256::digest(&self.address),
+            seconds: now,
+        }
+    }
+
+    /// Notes that a login of this name was wrong, at this time, in seconds. What is older than a
+    /// minute is forgotten.
+    pub fn note(&mut self, name: &[u8], now: u64) -> Result<(), AllocError>
+        ensures { OnOk result (self.new ≡ after_wrong self.old name.now now) }
+    {
+        let login = self.wrong_login(name, now);
+        remember(&mut self.wrong, login, now)?;
+        self.is_busy = true;
+        Ok(())
+    }
+
+    /// The turn ends: the next one may check a password again.
+    pub fn end_turn(&mut self)
+        ensures { self.new ≡ record self.old { is_busy = false } }
+    {
+        self.is_busy = false;
+    }
+}

@@ -1,0 +1,87 @@
+//! Wrong logins, and who waits after them.
+use super::parts;
+use crate::Logins;
+use std::alloc::{AllocError, Global};
+use std::test::Fail;
+
+// Wrong logins, each `name@address` and its second, `.` the end of a turn and `N*` so many of as many
+// names and addresses; then who comes next, and for how many seconds that waits.
+const WAITS: &str = "\
+# none, one, and the next turn
+ | anna@a 0 -> 0
+anna@a 0 | anna@a 0 -> 1
+anna@a 0 | bert@b 0 -> 1
+anna@a 0, . | anna@a 0 -> 0
+., anna@a 0 | anna@a 5 -> 1
+# five of a name, from anywhere; another name doesn't wait
+anna@a 0, anna@b 0, anna@c 0, anna@d 0, . | anna@a 0 -> 0
+anna@a 0, anna@b 0, anna@c 0, anna@d 0, anna@e 0, . | anna@a 0 -> 60
+anna@a 0, anna@b 0, anna@c 0, anna@d 0, anna@e 0, . | anna@z 0 -> 60
+anna@a 0, anna@b 0, anna@c 0, anna@d 0, anna@e 0, . | bert@a 0 -> 0
+anna@a 0, anna@b 0, anna@c 0, anna@d 0, anna@e 0, . | Anna@a 0 -> 0
+anna@a 0, anna@b 0, anna@c 0, anna@d 0, anna@e 0 | anna@z 0 -> 60
+@a 0, @b 0, @c 0, @d 0, @e 0, . | @f 0 -> 60
+# five from an address, of any names
+a@a 0, b@a 0, c@a 0, d@a 0, . | e@a 0 -> 0
+a@a 0, b@a 0, c@a 0, d@a 0, e@a 0, . | f@a 0 -> 60
+a@a 0, b@a 0, c@a 0, d@a 0, e@a 0, . | a@b 0 -> 0
+# after a minute
+anna@a 0, anna@a 10, anna@a 20, anna@a 30, anna@a 40, . | anna@a 59 -> 60
+anna@a 0, anna@a 10, anna@a 20, anna@a 30, anna@a 40, . | anna@a 60 -> 0
+anna@a 0, anna@a 10, anna@a 20, anna@a 30, anna@a 40, anna@a 60, . | anna@a 69 -> 60
+anna@a 0, anna@a 10, anna@a 20, anna@a 30, anna@a 40, anna@a 60, . | anna@a 70 -> 0
+anna@a 0, bert@b 100, anna@a 100, anna@a 100, anna@a 100, anna@a 100, . | anna@a 100 -> 0
+# 1,024 in all
+1023* 0, . | anna@a 0 -> 0
+1024* 0, . | anna@a 0 -> 60
+1024* 0, . | anna@a 60 -> 0
+1024* 0, anna@a 1, . | anna@a 60 -> 0
+1024* 0, anna@a 60, . | anna@a 60 -> 0
+";
+
+// Notes one wrong login, or so many.
+fn note(alloc: Global, logins: &mut Logins, who: &str, now: u64) -> Result<(), AllocError> {
+    if let Some((name, address)) = who.split_once('@') {
+        logins.hear_address(address.as_bytes())?;
+        return logins.note(name.as_bytes(), now);
+    }
+    let count = who.trim_end_matches('*').parse::<u64>().unwrap_or(0);
+    for number in 0..count {
+        let text = format!(in alloc; "{number}")?;
+        logins.hear_address(text.as_bytes())?;
+        logins.note(text.as_bytes(), now)?;
+    }
+    Ok(())
+}
+
+// How long the login waits that comes after the others of a row.
+fn waited(alloc: Global, input: &str) -> Result<u64, Fail> {
+    let (before, next) = input.split_once(" | ").ok_or("a row without a login")?;
+    let mut logins = Logins::new(alloc);
+    for login in before.split(", ") {
+        if login == "." {
+            logins.end_turn();
+        } else if let Some((who, at)) = login.split_once(' ') {
+            note(alloc, &mut logins, who, at.parse::<u64>().unwrap_or(0))?;
+        }
+    }
+    let (who, at) = next.split_once(' ').ok_or("a login without a time")?;
+    let (name, address) = who.split_once('@').ok_or("a login without an address")?;
+    logins.hear_address(address.as_bytes())?;
+    Ok(logins.wait_of(name.as_bytes(), at.parse::<u64>().unwrap_or(0)))
+}
+
+#[test]
+fn wrong_logins_wait(rt: HostRuntime) -> Result<(), Fail> {
+    let mut count = 0usize;
+    for row in WAITS.lines() {
+        if let Some((input, wanted)) = parts(row) {
+            let found = waited(rt.alloc(), input)?;
+            let wanted = wanted.parse::<u64>().unwrap_or(u64::MAX);
+            assert!(&rt; found == wanted, "{row}\ngives: {found}");
+            count = count.saturating_add(1);
+        }
+    }
+    assert!(&rt; count == 25, "{count} rows");
+    Ok(())
+}
