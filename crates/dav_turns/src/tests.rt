@@ -1,7 +1,8 @@
 //! Reports as rows of bytes, and turns as rows of text: reports, what the keeper was told, and the
 //! orders.
 use crate::frames::{
-    CLOSE, GONE, GOT, HELLO, Next, OPENED, READ, READ_BODY, READ_HEAD, ROOM, Report, SENT, TELL, TICK, USERS, next_in,
+    CLOSE, GONE, GOT, HELLO, Next, OPENED, READ, READ_BODY, READ_HEAD, ROOM, Report, SENT, TELL,
+    TICK, USERS, next_in,
 };
 use crate::{Keeper, TurnError, Turns, TurnsConfig};
 use dav_wire::{Answerer, Asked, Config, Rejection, Stop};
