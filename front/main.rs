@@ -7,20 +7,23 @@
 //! A report is `slot u32, kind u8, length u32, seconds u64, date u64, bytes`, an order `slot u32, next u8, length u32, bytes`; numbers
 //! are little-endian. `seconds` are those since the front began, by a clock that nobody sets; `date` those since 1970.
 //!
-//! SIGTERM and Ctrl-C end the core's input: it answers what it has, and ends; then the front does. SIGHUP reports the users again.
+//! SIGTERM and Ctrl-C end the core's input: it answers what it has, and ends; then the front does. SIGHUP reports the users and the rules
+//! of access again, and so does a change of their files.
 #![deny(unsafe_code)]
 
 mod clock;
 mod connection;
+mod lists;
 mod room;
 mod signals;
 mod slots;
 
 use clock::{Clock, date};
 use connection::{Connection, GONE, OPENED, Order, Times};
+use lists::Lists;
 use signals::{HANG_UP, INTERRUPT, Signals, TERMINATE};
 use slots::{Slots, origin_of};
-use std::fs::{self, File};
+use std::fs::File;
 use std::io::{self, BufReader, ErrorKind, Read, Write};
 use std::net::TcpListener;
 use std::os::unix::process::CommandExt;
@@ -59,8 +62,8 @@ struct Settings {
     times: Times,
     /// The most connections of one address.
     per_address: usize,
-    /// The file of the users, which SIGHUP has read again.
-    users: Option<String>,
+    /// The folder of the users and the rules, which are reported where they change.
+    lists: Option<String>,
     /// The folder on whose disk the state is, of which the room is reported.
     folder: Option<String>,
     /// What is said once the core answers; `{port}` stands for the port.
@@ -132,6 +135,7 @@ fn hand_out(front: &Front, core: impl Read) -> io::Result<()> {
 fn main() {
     let signals = Signals::block(&[HANG_UP, INTERRUPT, TERMINATE]);
     let settings = read_settings();
+    let lists = Arc::new(settings.lists.clone().map(Lists::new));
     let listener = bind(&settings.address);
     let mut command = Command::new(&settings.program);
     command.args(&settings.arguments).stdin(Stdio::piped()).stdout(Stdio::piped());
@@ -142,8 +146,8 @@ fn main() {
     let handing = front.clone();
     thread::spawn(move || end_with_core(&handing, child));
     let hearing = front.clone();
-    let users = settings.users.clone();
-    thread::spawn(move || hear(&hearing, &signals, users.as_deref()));
+    let heard = lists.clone();
+    thread::spawn(move || hear(&hearing, &signals, heard.as_ref().as_ref()));
     let mut random = [0u8; 16];
     File::open("/dev/urandom")
         .and_then(|mut file| file.read_exact(&mut random))
@@ -160,6 +164,9 @@ fn main() {
         while ticking.report(0, TICK, &[]).is_ok() {
             thread::sleep(SECOND);
             ticking.clock.look();
+            if let Some(lists) = lists.as_ref() {
+                report_lists(&ticking, lists.changed());
+            }
             ticks += 1;
             if ticks % MEASURED == 0 {
                 report_room(&ticking, folder.as_deref(), process);
@@ -174,7 +181,7 @@ fn read_settings() -> Settings {
     let mut settings = Settings {
         times: Times { idle: Duration::from_secs(75), piece: Duration::from_secs(60) },
         per_address: 128,
-        users: None,
+        lists: None,
         folder: None,
         ready: None,
         address: String::new(),
@@ -188,7 +195,7 @@ fn read_settings() -> Settings {
             "--idle" => settings.times.idle = Duration::from_secs(number(&value)),
             "--piece-time" => settings.times.piece = Duration::from_secs(number(&value)),
             "--per-address" => settings.per_address = number(&value) as usize,
-            "--users" => settings.users = Some(value),
+            "--lists" => settings.lists = Some(value),
             "--room" => settings.folder = Some(value),
             "--ready" => settings.ready = Some(value),
             _ => usage(),
@@ -266,19 +273,25 @@ fn accept(front: &Arc<Front>, listener: &TcpListener) {
 }
 
 /// Does what the signals ask.
-fn hear(front: &Front, signals: &Signals, users: Option<&str>) {
+fn hear(front: &Front, signals: &Signals, lists: Option<&Lists>) {
     loop {
-        match (signals.next(), users) {
-            (HANG_UP, Some(file)) => match fs::read(file) {
-                Ok(text) if text.len() <= MOST => {
-                    let _ = front.report(0, USERS, &text);
-                }
-                Ok(_) => eprintln!("serve: {file} has more than {MOST} bytes; the users are as they were"),
-                Err(error) => eprintln!("serve: {file}: {error}; the users are as they were"),
-            },
+        match (signals.next(), lists) {
+            (HANG_UP, Some(lists)) => report_lists(front, Some(lists.read())),
             (HANG_UP, None) => {}
             _ => front.end(),
         }
+    }
+}
+
+/// Reports users and rules that were read, or says why they can't be.
+fn report_lists(front: &Front, read: Option<Result<Vec<u8>, String>>) {
+    match read {
+        Some(Ok(text)) if text.len() <= MOST => {
+            let _ = front.report(0, USERS, &text);
+        }
+        Some(Ok(_)) => eprintln!("serve: users and access have more than {MOST} bytes; they are as they were"),
+        Some(Err(why)) => eprintln!("serve: {why}; users and access are as they were"),
+        None => {}
     }
 }
 
@@ -321,7 +334,7 @@ fn begin_again() -> ! {
 }
 
 fn usage() -> ! {
-    eprintln!("usage: front [--idle SECONDS] [--piece-time SECONDS] [--per-address COUNT] [--users FILE] [--room FOLDER] [--ready TEXT] ADDRESS:PORT PROGRAM [ARGUMENT..]");
+    eprintln!("usage: front [--idle SECONDS] [--piece-time SECONDS] [--per-address COUNT] [--lists FOLDER] [--room FOLDER] [--ready TEXT] ADDRESS:PORT PROGRAM [ARGUMENT..]");
     exit(64)
 }
 

@@ -10,7 +10,7 @@ use Rattle.dav_core.specs.declared.errors.DavError.{DavError}
 use Rattle.dav_core.specs.declared.method.DavMethod.{DavMethod}
 use Rattle.dav_core.specs.declared.method.DavMethod.TheVariants.{Copy, Move}
 use Rattle.dav_core.specs.Path.{Path, PathText, names, star}
-use Rattle.dav_engine.specs.Conditions.{Addressed, AreConditions, Conditions, SaysLists}
+use Rattle.dav_engine.specs.Conditions.{Addressed, AreConditions, Conditions, SaysLists, paths_in}
 use Rattle.dav_engine.specs.CopyMove.{DestinationNames}
 use Rattle.dav_engine.specs.Headers.{Decodes}
 use Rattle.dav_engine.proofs.OnePlanLemmas.{one_conditions, one_place}
@@ -24,7 +24,7 @@ use Rattle.dav_server.proofs.HeadLemmas.{one_head}
 use Rattle.dav_server.proofs.MeansWorld.{one_method}
 use Rattle.dav_server.proofs.TargetLemmas.{one_outcome}
 use Rattle.dav_access.specs.Rules.{Rules, has_right, may_read, may_write}
-use Rattle.dav_confined.specs.Asked.{AskedView, IsAsked, has_destination, has_leave, has_target, may_write_at, paths_in}
+use Rattle.dav_confined.specs.Asked.{AskedView, IsAsked, has_destination, has_leave, has_target, may_write_at}
 use Rattle.dav_confined.specs.Leave.{HasLeave, SpeaksOfReadable, needed}
 
 -- ---- tests
@@ -96,14 +96,14 @@ module _ (rules : Rules) (s : Settings) (x : Exchange) (a : AskedView) (asked : 
 
   -- the one path that Destination names
   place_is : (d : PathText) → DestinationNames a.path.prefix (get_all (headers_of asked.request.fields) (codes "destination")) (Ok d) → a.destination ≡ Some d
-  place_is d named = asked.destination ∙ ap result_ok (one_place a.path.prefix (get_all (headers_of asked.request.fields) (codes "destination")) asked.named named)
+  place_is d named = asked.says.destination ∙ ap result_ok (one_place a.path.prefix (get_all (headers_of asked.request.fields) (codes "destination")) asked.says.named named)
 
   -- the lists that the If says
-  lists_are : (lists : List Addressed) → SaysLists a.path.prefix (names a.path) (get_all (headers_of asked.request.fields) (codes "if")) lists → asked.conditions.lists ≡ Some lists
+  lists_are : (lists : List Addressed) → SaysLists a.path.prefix (names a.path) (get_all (headers_of asked.request.fields) (codes "if")) lists → asked.says.conditions.lists ≡ Some lists
   lists_are lists says =
       ap (λ (c : Conditions). c.lists)
-      (one_conditions (headers_of asked.request.fields) a.path.prefix (names a.path) asked.conditions (record asked.conditions { lists = Some lists }) asked.read
-      (record { match = asked.read.match; none_match = asked.read.none_match; lists = says }))
+      (one_conditions (headers_of asked.request.fields) a.path.prefix (names a.path) asked.says.conditions (record asked.says.conditions { lists = Some lists }) asked.says.read
+      (record { match = asked.says.read.match; none_match = asked.says.read.none_match; lists = says }))
 
   -- ---- leave for what is asked
 
@@ -129,7 +129,7 @@ module _ (rules : Rules) (s : Settings) (x : Exchange) (a : AskedView) (asked : 
           (λ one named. writes_at a.method a.destination d one (place_is d named) rest.0) r m p to is_one named;
       conditions = λ r m p lists to says. by_reading
           (λ r m p. SaysLists p.prefix (names p) (get_all (headers_of r.fields) (codes "if")) lists → SpeaksOfReadable rules x.principal lists)
-          (λ says. all_readable (may_read rules x.principal) lists (subst (λ (qs : List Path). list_all (may_read rules x.principal) qs ≡ true) (asked.spoken_of ∙ ap paths_in (lists_are lists says)) rest.1)) r m p to says;
+          (λ says. all_readable (may_read rules x.principal) lists (subst (λ (qs : List Path). list_all (may_read rules x.principal) qs ≡ true) (asked.says.spoken_of ∙ ap paths_in (lists_are lists says)) rest.1)) r m p to says;
     }
 
   -- ---- leave for the request
@@ -146,25 +146,25 @@ module _ (rules : Rules) (s : Settings) (x : Exchange) (a : AskedView) (asked : 
     written : (one : (a.method ≡ Copy) ⊎ (a.method ≡ Move)) (o : Option PathText) → a.destination ≡ o → may_write_at rules x.principal o ≡ true
     written one None here = refl
     written one (Some d) here =
-        let is : asked.place ≡ Ok d = place_of asked.place d (sym asked.destination ∙ here) in
+        let is : asked.says.place ≡ Ok d = place_of asked.says.place d (sym asked.says.destination ∙ here) in
         leave.destination asked.request a.method a.path d asked.to one
-        (subst (DestinationNames a.path.prefix (get_all (headers_of asked.request.fields) (codes "destination"))) is asked.named)
+        (subst (DestinationNames a.path.prefix (get_all (headers_of asked.request.fields) (codes "destination"))) is asked.says.named)
 
     destination_by : (m : DavMethod) → a.method ≡ m → has_destination rules x.principal m a.destination ≡ true
     destination_by Copy is = written (inl is) a.destination refl
     destination_by Move is = written (inr is) a.destination refl
     destination_by _ is = refl
 
-    read_by : (o : Option (List Addressed)) → asked.conditions.lists ≡ o → list_all (may_read rules x.principal) (paths_in o) ≡ true
+    read_by : (o : Option (List Addressed)) → asked.says.conditions.lists ≡ o → list_all (may_read rules x.principal) (paths_in o) ≡ true
     read_by None is = refl
     read_by (Some lists) is =
         readable_all (may_read rules x.principal) lists
         (leave.conditions asked.request a.method a.path lists asked.to
-        (subst (Decodes (SaysLists a.path.prefix (names a.path)) (get_all (headers_of asked.request.fields) (codes "if"))) is asked.read.lists))
+        (subst (Decodes (SaysLists a.path.prefix (names a.path)) (get_all (headers_of asked.request.fields) (codes "if"))) is asked.says.read.lists))
 
     pub of_leave : has_leave rules x.principal a ≡ true
     of_leave =
         and_join (has_target rules x.principal a) (has_destination rules x.principal a.method a.destination && list_all (may_read rules x.principal) a.spoken_of)
         (target_by (bytes_eq a.path.bytes star) refl)
         (and_join (has_destination rules x.principal a.method a.destination) (list_all (may_read rules x.principal) a.spoken_of) (destination_by a.method refl)
-        (subst (λ (qs : List Path). list_all (may_read rules x.principal) qs ≡ true) (sym asked.spoken_of) (read_by asked.conditions.lists refl)))
+        (subst (λ (qs : List Path). list_all (may_read rules x.principal) qs ≡ true) (sym asked.says.spoken_of) (read_by asked.says.conditions.lists refl)))

@@ -1,14 +1,15 @@
 -- What a head asks for, as the machine reads it, and whether that has leave.
-use Rattle.std.specs.Prelude.{◌≡◌, ◌&&◌, ◌||◌, ℕ, Bool, true, false, bytes_eq, codes, List, [], Option, Some, None, Result}
-use Rattle.std.specs.List.{filter_map, list_all}
+use Rattle.std.specs.Prelude.{◌≡◌, ◌&&◌, ◌||◌, ℕ, Bool, true, false, bytes_eq, codes, List, Option, Some, None, Result}
+use Rattle.std.specs.List.{list_all}
 use Rattle.std.specs.Result.{result_ok}
 use Rattle.http_header.specs.HeaderMap.{get_all}
 use Rattle.dav_core.specs.declared.errors.DavError.{DavError}
 use Rattle.dav_core.specs.declared.method.DavMethod.{DavMethod}
 use Rattle.dav_core.specs.declared.method.DavMethod.TheVariants.{Copy, Move}
 use Rattle.dav_core.specs.Path.{Path, PathText, names, star}
-use Rattle.dav_engine.specs.Conditions.{Addressed, AreConditions, Conditions}
+use Rattle.dav_engine.specs.Conditions.{AreConditions, Conditions, paths_in}
 use Rattle.dav_engine.specs.CopyMove.{DestinationNames}
+use Rattle.dav_engine.specs.Headers.{Headers}
 use Rattle.dav_server.specs.Head.{Request}
 use Rattle.dav_server.specs.Headers.{headers_of}
 use Rattle.dav_server.specs.Holder.{IsRequestTo}
@@ -24,21 +25,25 @@ pub record AskedView : Type 0 where
   pub destination : Option PathText
   pub spoken_of : List Path
 
--- the paths that the lists of an If speak of, in order; none where there is no If (RFC 4918, section 10.4.2)
-abbrev pub paths_in : Option (List Addressed) → List Path
-paths_in None = []
-paths_in (Some lists) = filter_map (λ l. l.path) lists
+-- The headers of a request to a path name these paths besides it: the one in Destination, and those that the
+-- lists of If speak of (RFC 4918, sections 10.3 and 10.4.2).
+pub record NamesPaths (headers : Headers) (a : AskedView) : Type 0 where
+  pub place : Result PathText DavError
+  pub named : DestinationNames a.path.prefix (get_all headers (codes "destination")) place
+  pub destination : a.destination ≡ result_ok place
+  pub conditions : Conditions
+  pub read : AreConditions headers a.path.prefix (names a.path) conditions
+  pub spoken_of : a.spoken_of ≡ paths_in conditions.lists
 
 -- the machine reads this in the bytes of the request
 pub record IsAsked (s : Settings) (x : Exchange) (a : AskedView) : Type 0 where
   pub request : Request
   pub to : IsRequestTo s x request a.method a.path
-  pub place : Result PathText DavError
-  pub named : DestinationNames a.path.prefix (get_all (headers_of request.fields) (codes "destination")) place
-  pub destination : a.destination ≡ result_ok place
-  pub conditions : Conditions
-  pub read : AreConditions (headers_of request.fields) a.path.prefix (names a.path) conditions
-  pub spoken_of : a.spoken_of ≡ paths_in conditions.lists
+  pub says : NamesPaths (headers_of request.fields) a
+
+-- the machine reads no request in the bytes: they are no head, its method isn't served, or its target names no path
+abbrev pub IsUnread : Settings → Exchange → Type 0
+IsUnread s x = (r : Request) (m : DavMethod) (p : PathText) → ¬ IsRequestTo s x r m p
 
 -- whether a principal has the right that the method needs at its target; `*` needs none
 abbrev pub has_target : Rules → Option (List ℕ) → AskedView → Bool

@@ -48,6 +48,11 @@ pub record HasLeave (rules : Rules) (s : Settings) (x : Exchange) : Type 0 where
       → SaysLists p.prefix (names p) (get_all (headers_of r.fields) (codes "if")) lists
       → SpeaksOfReadable rules x.principal lists
 
+-- each request with this head, of this principal, has leave below this prefix
+abbrev pub Permits : Rules → List ℕ → Option (List ℕ) → List ℕ → Type 0
+Permits rules prefix who head =
+    (s : Settings) (x : Exchange) → s.prefix ≡ prefix → x.head ≡ head → x.principal ≡ who → HasLeave rules s x
+
 -- A principal may end a lock: its own, where it may write at the lock's path; another's, where it may end
 -- the locks of others there.
 abbrev pub MayEnd : Rules → Option (List ℕ) → Lock → Type 0

@@ -4,4 +4,5 @@ pub mod Seen
 pub mod SeenSteps
 pub mod Leave
 pub mod Asked
+pub mod Unlocking
 pub mod Granted

@@ -4,5 +4,10 @@
 
 pub mod laws;
 pub mod leave;
+mod reading;
 #[cfg(test)]
 mod tests;
+mod unlocking;
+
+pub use reading::has_leave;
+pub use unlocking::may_unlock;

@@ -1,9 +1,11 @@
 //! Which requests have leave, as rows of text.
 use crate::leave::{Asked, may_end};
+use crate::{has_leave, may_unlock};
 use dav_access::{Rules, Users, file};
 use dav_core::davpath::DavPath;
-use dav_core::ls::DavLock;
+use dav_core::ls::{DavLock, DavLockSystem};
 use dav_server::method::method_of;
+use dav_store::memls::MemLs;
 use std::alloc::{AllocError, Global};
 use std::test::Fail;
 
@@ -79,6 +81,83 @@ cleo ben / -> no
 cleo cleo /shared -> yes
 - - /public/a -> no
 - anna /anna/a -> no
+";
+
+// Who, or `-` for nobody, and the lines of a head, between bars; whether it has leave below the prefix `/dav`.
+const HEADS: &str = "\
+# the path that the machine reads in the target
+anna | GET /dav/shared/a -> yes
+anna | GET /dav/%73hared/a -> yes
+anna | GET //dav//shared//a -> yes
+anna | GET /dav/ben/./../shared/a -> yes
+anna | GET http://host/dav/shared/a -> yes
+anna | GET /dav/anna/../ben/a -> no
+anna | GET /dav/anna/%2e%2e/ben/a -> no
+anna | GET http://host/dav/anna/%2E%2E/ben -> no
+anna | GET /dav -> no
+anna | PUT /dav/anna/a -> yes
+anna | PUT /dav/shared/a -> no
+- | PUT /dav/anna/a -> no
+- | GET /dav/public/a -> yes
+- | OPTIONS * -> yes
+# what the machine doesn't read has leave: it is answered with an error
+anna | GET /other/ben -> yes
+anna | GET /dav/../../ben -> yes
+anna | GET * -> yes
+anna | REPORT /dav/ben -> yes
+anna | get /dav/ben -> yes
+anna | GET /dav/ben | no field -> yes
+# Destination, read as a target is
+anna | COPY /dav/shared/a | Destination: /dav/anna/b -> yes
+anna | COPY /dav/shared/a | Destination: http://host/dav/anna/b -> yes
+anna | COPY /dav/shared/a | destination: /dav/anna/%2e%2e/ben/b -> no
+anna | COPY /dav/shared/a | Destination: /dav/shared/b -> no
+anna | MOVE /dav/anna/a | Destination: /dav/anna/b -> yes
+anna | MOVE /dav/anna/a | Destination: /dav/ben/b -> no
+anna | MOVE /dav/shared/a | Destination: /dav/anna/b -> no
+anna | PUT /dav/anna/a | Destination: /dav/ben/b -> yes
+anna | COPY /dav/shared/a | Destination: /other/b -> yes
+anna | COPY /dav/shared/a | Destination: /dav/ben/b | Destination: /dav/anna/b -> yes
+# the lists of If
+anna | PUT /dav/anna/a | If: ([\"1\"]) -> yes
+anna | PUT /dav/anna/a | If: <http://host/dav/shared/b> ([\"1\"]) -> yes
+anna | PUT /dav/anna/a | If: <http://host/dav/ben/b> ([\"1\"]) -> no
+anna | PUT /dav/anna/a | If: <http://host/dav/ben/b> (<urn:uuid:1>) -> no
+anna | GET /dav/shared/a | If: <http://host/dav/anna/%2e%2e/ben/b> (Not [\"1\"]) -> no
+anna | GET /dav/shared/a | If: <http://host/dav/shared/b> ([\"1\"]) <http://host/dav/ben> ([\"1\"]) -> no
+- | OPTIONS * | If: <http://host/dav/shared> ([\"1\"]) -> no
+# an If that means nothing speaks of no path
+anna | GET /dav/shared/a | If: <http://host/dav/ben/b> ([\"1\"] -> yes
+# an UNLOCK reads at its target
+anna | UNLOCK /dav/shared/a | Lock-Token: <urn:uuid:1> -> yes
+anna | UNLOCK /dav/ben/a | Lock-Token: <urn:uuid:1> -> no
+";
+
+// Who and the lines of a head, between bars; whether that ends no lock that he may not end. There are locks of anna on `/anna`
+// (urn:uuid:1), of ben on `/shared` (urn:uuid:2), of nobody on `/` (urn:uuid:3) and of anna on `/shared/s` (urn:uuid:4).
+const UNLOCKS: &str = "\
+anna | UNLOCK /dav/anna | Lock-Token: <urn:uuid:1> -> yes
+anna | UNLOCK /dav/anna/a/b | Lock-Token: urn:uuid:1 -> yes
+ben | UNLOCK /dav/anna/a | Lock-Token: <urn:uuid:1> -> no
+- | UNLOCK /dav/anna | Lock-Token: <urn:uuid:1> -> no
+anna | UNLOCK /dav/shared/a | Lock-Token: <urn:uuid:2> -> no
+ben | UNLOCK /dav/shared/a | Lock-Token: <urn:uuid:2> -> no
+cleo | UNLOCK /dav/shared/a | Lock-Token: <urn:uuid:2> -> yes
+cleo | UNLOCK /dav/shared/a | Lock-Token: <urn:uuid:3> -> no
+anna | UNLOCK /dav/anna/a | Lock-Token: <<urn:uuid:3>> -> no
+# one's own lock, where one may read alone
+anna | UNLOCK /dav/shared/s | Lock-Token: <urn:uuid:4> -> no
+cleo | UNLOCK /dav/shared/s/t | Lock-Token: <urn:uuid:4> -> yes
+# no lock is named
+anna | UNLOCK /dav/shared/a | Lock-Token: <urn:uuid:1> -> yes
+anna | UNLOCK /dav/shared | Lock-Token: <urn:uuid:4> -> yes
+anna | UNLOCK /dav/shared | Lock-Token: <urn:uuid:22> -> yes
+anna | UNLOCK /dav/shared -> yes
+anna | UNLOCK /dav/shared | Lock-Token: <urn:uuid:2> | Lock-Token: <urn:uuid:2> -> yes
+anna | DELETE /dav/shared | Lock-Token: <urn:uuid:2> -> yes
+anna | unlock /dav/shared | Lock-Token: <urn:uuid:2> -> yes
+anna | UNLOCK /other/shared | Lock-Token: <urn:uuid:2> -> yes
+anna | UNLOCK /dav/shared | Lock-Token -> yes
 ";
 
 fn rules_of(alloc: Global) -> Result<Rules, Fail> {
@@ -167,6 +246,68 @@ fn locks_may_be_ended(rt: HostRuntime) -> Result<(), Fail> {
             let (principal, path) = lock.split_once(' ').ok_or("a row without a path")?;
             let lock = lock_of(rt.alloc(), word_of(principal), path)?;
             let found = may_end(&rules, word_of(who), &lock);
+            assert!(&rt; found == (wanted == "yes"), "{row}");
+        }
+    }
+    Ok(())
+}
+
+// The bytes of a head with these lines, between bars.
+fn head_of(alloc: Global, lines: &str) -> Result<String, Fail> {
+    let mut head = String::new(alloc);
+    for (place, line) in lines.split(" | ").enumerate() {
+        head.push_str(line)?;
+        if place == 0 {
+            head.push_str(" HTTP/1.1")?;
+        }
+        head.push_str("\r\n")?;
+    }
+    head.push_str("\r\n")?;
+    Ok(head)
+}
+
+#[test]
+fn heads_have_leave(rt: HostRuntime) -> Result<(), Fail> {
+    let rules = rules_of(rt.alloc())?;
+    for row in HEADS.lines() {
+        if let Some((input, wanted)) = parts(row) {
+            let (who, lines) = input.split_once(" | ").ok_or("a row without a head")?;
+            let head = head_of(rt.alloc(), lines)?;
+            let found = has_leave(rt.alloc(), &rules, word_of(who), head.as_bytes(), "/dav")?;
+            assert!(&rt; found == (wanted == "yes"), "{row}");
+        }
+    }
+    Ok(())
+}
+
+// The locks that the rows speak of.
+fn locks(alloc: Global) -> Result<MemLs, Fail> {
+    let mut locks = MemLs::new(alloc)?;
+    for (principal, path, token) in [
+        (None, "/", "urn:uuid:3"),
+        (Some("anna"), "/anna", "urn:uuid:1"),
+        (Some("ben"), "/shared", "urn:uuid:2"),
+        (Some("anna"), "/shared/s", "urn:uuid:4"),
+    ] {
+        let path = DavPath::new(alloc, path)?;
+        let made = locks.lock(alloc, &path, principal, None, None, true, true, token, 0);
+        if made.is_err() {
+            return Err("a lock that isn't made".into());
+        }
+    }
+    Ok(locks)
+}
+
+#[test]
+fn unlocks_end_what_they_may(rt: HostRuntime) -> Result<(), Fail> {
+    let rules = rules_of(rt.alloc())?;
+    let locks = locks(rt.alloc())?;
+    for row in UNLOCKS.lines() {
+        if let Some((input, wanted)) = parts(row) {
+            let (who, lines) = input.split_once(" | ").ok_or("a row without a head")?;
+            let head = head_of(rt.alloc(), lines)?;
+            let bytes = head.as_bytes();
+            let found = may_unlock(rt.alloc(), &rules, word_of(who), bytes, "/dav", &locks)?;
             assert!(&rt; found == (wanted == "yes"), "{row}");
         }
     }

@@ -21,7 +21,7 @@ use Rattle.dav_engine.specs.LockHeaders.{preferred}
 use Rattle.dav_server.specs.Head.{IsHead, Request, is_same_name}
 use Rattle.dav_server.specs.Headers.{headers_of}
 use Rattle.dav_http.specs.HeadText.{field_line, head_text}
-use Rattle.dav_http.specs.Kept.{IsDepthless, IsKeptOf, Says, addressed, depth_field, depthless, is_kept, kept_field, kept_fields, lock, lowered, other, timeout_field}
+use Rattle.dav_http.specs.Kept.{GetsDepth, IsKeptOf, Says, addressed, depth_field, depthless, is_kept, kept_field, kept_fields, lock, lowered, other, timeout_field}
 use Rattle.dav_http.proofs.Addressed.{bytes_pass, front_stays, last_or_none, last_stays, values_of_printed}
 use Rattle.dav_http.proofs.Printed.{decimal_printed}
 
@@ -261,9 +261,9 @@ timeout_plain n small =
 
 -- ---- what is kept of a head
 
-pub kept_other : (most : ℕ) (bytes : List ℕ) (came : Request) → IsHead bytes came → came.method ≢ codes "LOCK" → ¬ IsDepthless came
-    → (r : Request) × IsKeptOf most came r × Says (head_text came.method came.target (kept_fields false came.fields)) r
-kept_other most bytes came is not told =
+pub kept_other : (most : ℕ) (strict : Bool) (bytes : List ℕ) (came : Request) → IsHead bytes came → came.method ≢ codes "LOCK" → ¬ GetsDepth strict came
+    → (r : Request) × IsKeptOf most strict came r × Says (head_text came.method came.target (kept_fields false came.fields)) r
+kept_other most strict bytes came is not told =
     let plain = plain_request bytes came is in
     let kept : Request = record came { fields = kept_fields false came.fields } in
     (kept, other not told, says_request kept (record { method = plain.method; target = plain.target; text = plain.text; fields = kept_plain false came.fields plain.fields }))
@@ -272,9 +272,9 @@ depth_plain : IsPlain depth_field
 unfolding is_token_byte
 depth_plain = record { name = (omega arith, each_passes is_token_byte (codes "depth") refl); value = values_of_printed (codes "1") refl; trimmed = trims_by (codes "1") refl refl }
 
-pub kept_depthless : (most : ℕ) (bytes : List ℕ) (came : Request) → IsHead bytes came → IsDepthless came
-    → (r : Request) × IsKeptOf most came r × Says (head_text came.method came.target (kept_fields false came.fields ++ depth_field ∷ [])) r
-kept_depthless most bytes came is silent =
+pub kept_depthless : (most : ℕ) (strict : Bool) (bytes : List ℕ) (came : Request) → IsHead bytes came → GetsDepth strict came
+    → (r : Request) × IsKeptOf most strict came r × Says (head_text came.method came.target (kept_fields false came.fields ++ depth_field ∷ [])) r
+kept_depthless most strict bytes came is silent =
     let plain = plain_request bytes came is in
     let kept : Request = record came { fields = kept_fields false came.fields ++ depth_field ∷ [] } in
     let all : All IsPlain kept.fields =
@@ -282,37 +282,37 @@ kept_depthless most bytes came is silent =
     (All-cons IsPlain depth_field [] depth_plain (All-nil IsPlain)) in
     (kept, depthless silent, says_request kept (record { method = plain.method; target = plain.target; text = plain.text; fields = all }))
 
-pub kept_lock : (most n : ℕ) (bytes : List ℕ) (came : Request) (times : Option (List DavTimeout)) → IsHead bytes came → came.method ≡ codes "LOCK"
+pub kept_lock : (most n : ℕ) (strict : Bool) (bytes : List ℕ) (came : Request) (times : Option (List DavTimeout)) → IsHead bytes came → came.method ≡ codes "LOCK"
     → Decodes IsTimeout (get_all (headers_of came.fields) (codes "timeout")) times → n ≡ lowered most (preferred times) → n < 2 ^ 64
-    → (r : Request) × IsKeptOf most came r × Says (head_text came.method came.target (kept_fields true came.fields ++ timeout_field n ∷ [])) r
-kept_lock most n bytes came times is named reads n_is small =
+    → (r : Request) × IsKeptOf most strict came r × Says (head_text came.method came.target (kept_fields true came.fields ++ timeout_field n ∷ [])) r
+kept_lock most n strict bytes came times is named reads n_is small =
     let plain = plain_request bytes came is in
     let kept : Request = record came { fields = kept_fields true came.fields ++ timeout_field n ∷ [] } in
     let all : All IsPlain kept.fields =
     All-append IsPlain (kept_fields true came.fields) (timeout_field n ∷ []) (kept_plain true came.fields plain.fields)
     (All-cons IsPlain (timeout_field n) [] (timeout_plain n small) (All-nil IsPlain)) in (
       kept,
-      subst (λ (k : ℕ). IsKeptOf most came (record came { fields = kept_fields true came.fields ++ timeout_field k ∷ [] })) (sym n_is) (lock named times reads),
+      subst (λ (k : ℕ). IsKeptOf most strict came (record came { fields = kept_fields true came.fields ++ timeout_field k ∷ [] })) (sym n_is) (lock named times reads),
       says_request kept (record { method = plain.method; target = plain.target; text = plain.text; fields = all }),
     )
 
-pub answers_other : (most : ℕ) (bytes method text : List ℕ) (view came : Request) → IsHead bytes view → view ≡ came → method ≡ came.method → method ≢ codes "LOCK"
-    → ¬ IsDepthless came → text ≡ head_text view.method view.target (kept_fields false view.fields) → (r : Request) × IsKeptOf most came r × Says text r
-answers_other most bytes method text view came is same named not told text_is =
-    let (r, kept, says) = kept_other most bytes came (subst (IsHead bytes) same is) (λ locks. not (named ∙ locks)) told in
+pub answers_other : (most : ℕ) (strict : Bool) (bytes method text : List ℕ) (view came : Request) → IsHead bytes view → view ≡ came → method ≡ came.method → method ≢ codes "LOCK"
+    → ¬ GetsDepth strict came → text ≡ head_text view.method view.target (kept_fields false view.fields) → (r : Request) × IsKeptOf most strict came r × Says text r
+answers_other most strict bytes method text view came is same named not told text_is =
+    let (r, kept, says) = kept_other most strict bytes came (subst (IsHead bytes) same is) (λ locks. not (named ∙ locks)) told in
     (r, kept, subst (λ (t : List ℕ). Says t r) (sym (text_is ∙ ap (λ (q : Request). head_text q.method q.target (kept_fields false q.fields)) same)) says)
 
-pub answers_depthless : (most : ℕ) (bytes text : List ℕ) (view came : Request) → IsHead bytes view → view ≡ came → IsDepthless came
-    → text ≡ head_text view.method view.target (kept_fields false view.fields ++ depth_field ∷ []) → (r : Request) × IsKeptOf most came r × Says text r
-answers_depthless most bytes text view came is same silent text_is =
-    let (r, kept, says) = kept_depthless most bytes came (subst (IsHead bytes) same is) silent in
+pub answers_depthless : (most : ℕ) (strict : Bool) (bytes text : List ℕ) (view came : Request) → IsHead bytes view → view ≡ came → GetsDepth strict came
+    → text ≡ head_text view.method view.target (kept_fields false view.fields ++ depth_field ∷ []) → (r : Request) × IsKeptOf most strict came r × Says text r
+answers_depthless most strict bytes text view came is same silent text_is =
+    let (r, kept, says) = kept_depthless most strict bytes came (subst (IsHead bytes) same is) silent in
     (r, kept, subst (λ (t : List ℕ). Says t r) (sym (text_is ∙ ap (λ (q : Request). head_text q.method q.target (kept_fields false q.fields ++ depth_field ∷ [])) same)) says)
 
-pub answers_lock : (most n : ℕ) (bytes method text : List ℕ) (view came : Request) → IsHead bytes view → view ≡ came → method ≡ came.method → method ≡ codes "LOCK"
+pub answers_lock : (most n : ℕ) (strict : Bool) (bytes method text : List ℕ) (view came : Request) → IsHead bytes view → view ≡ came → method ≡ came.method → method ≡ codes "LOCK"
     → (times : Option (List DavTimeout)) × Decodes IsTimeout (get_all (headers_of view.fields) (codes "timeout")) times × (n ≡ lowered most (preferred times)) → n < 2 ^ 64
-    → text ≡ head_text view.method view.target (kept_fields true view.fields ++ timeout_field n ∷ []) → (r : Request) × IsKeptOf most came r × Says text r
-answers_lock most n bytes method text view came is same named locks (times, reads, n_is) small text_is =
+    → text ≡ head_text view.method view.target (kept_fields true view.fields ++ timeout_field n ∷ []) → (r : Request) × IsKeptOf most strict came r × Says text r
+answers_lock most n strict bytes method text view came is same named locks (times, reads, n_is) small text_is =
     let (r, kept, says) =
-    kept_lock most n bytes came times (subst (IsHead bytes) same is) (sym named ∙ locks)
+    kept_lock most n strict bytes came times (subst (IsHead bytes) same is) (sym named ∙ locks)
     (subst (λ (q : Request). Decodes IsTimeout (get_all (headers_of q.fields) (codes "timeout")) times) same reads) n_is small in
     (r, kept, subst (λ (t : List ℕ). Says t r) (sym (text_is ∙ ap (λ (q : Request). head_text q.method q.target (kept_fields true q.fields ++ timeout_field n ∷ [])) same)) says)

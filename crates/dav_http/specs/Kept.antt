@@ -60,15 +60,20 @@ depth_field = (codes "depth", codes "1")
 abbrev pub IsDepthless : Request → Type 0
 IsDepthless r = (r.method ≡ codes "PROPFIND") × (values_of (codes "depth") r.fields ≡ [])
 
+-- it gets a Depth, unless the machine's own answer to it is wanted
+abbrev pub GetsDepth : Bool → Request → Type 0
+GetsDepth strict r = (strict ≡ false) × IsDepthless r
+
 -- The request that is run and kept of one that came, where a lock is granted for at most so many seconds: its method, its target and the
 -- fields that are kept; of a LOCK the time that the machine reads in its Timeout is lowered; and a PROPFIND without a Depth, which the
--- standard lets a server refuse as one of infinite depth, has one of 1, as its clients mean it.
-pub data IsKeptOf (most : ℕ) (came : Request) : Request → Type 0 where
-  other : came.method ≢ codes "LOCK" → ¬ IsDepthless came → IsKeptOf most came (record came { fields = kept_fields false came.fields })
-  depthless : IsDepthless came → IsKeptOf most came (record came { fields = kept_fields false came.fields ++ depth_field ∷ [] })
+-- standard lets a server refuse as one of infinite depth, has one of 1, as its clients mean it, but where that is left to the machine
+-- (`strict`).
+pub data IsKeptOf (most : ℕ) (strict : Bool) (came : Request) : Request → Type 0 where
+  other : came.method ≢ codes "LOCK" → ¬ GetsDepth strict came → IsKeptOf most strict came (record came { fields = kept_fields false came.fields })
+  depthless : GetsDepth strict came → IsKeptOf most strict came (record came { fields = kept_fields false came.fields ++ depth_field ∷ [] })
   lock : came.method ≡ codes "LOCK" → (times : Option (List DavTimeout))
       → Decodes IsTimeout (get_all (headers_of came.fields) (codes "timeout")) times
-      → IsKeptOf most came (record came { fields = kept_fields true came.fields ++ timeout_field (lowered most (preferred times)) ∷ [] })
+      → IsKeptOf most strict came (record came { fields = kept_fields true came.fields ++ timeout_field (lowered most (preferred times)) ∷ [] })
 
 -- These bytes are a head that says this, however many they are (RFC 9112, sections 2 to 5).
 abbrev pub Says : List ℕ → Request → Type 0

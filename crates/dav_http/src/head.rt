@@ -49,7 +49,7 @@ impl<'a> Head<'a> {
     ghost use Rattle.std.specs.List.{slice_get};
     ghost use Rattle.dav_http.specs.Leaves.{Leaves};
     ghost use Rattle.dav_server.specs.Head.{Request, IsHead, values_of};
-    ghost use Rattle.dav_http.specs.Kept.{IsDepthless, IsKeptOf, Says};
+    ghost use Rattle.dav_http.specs.Kept.{GetsDepth, IsDepthless, IsKeptOf, Says};
     ghost use Rattle.std.specs.Bool.{Decides};
 
     /// Reads a head that is all of the bytes; none where the machine reads none in them. Allocates nothing.
@@ -115,18 +115,26 @@ impl<'a> Head<'a> {
         self.method() == b"PROPFIND".as_slice() && self.lacks("depth")
     }
 
+    // Whether it gets a Depth, unless the machine's own answer is wanted.
+    fn gets_depth(&self, strict: bool) -> bool
+        ensures { Decides result (GetsDepth strict self.now) }
+    {
+        !strict && self.is_depthless()
+    }
+
     /// The head that is run and kept: without the fields that show who asks, and those that speak of the connection alone; in an
     /// If each address of a resource is a whole URL (RFC 4918, section 10.4.2); in place of a LOCK's Timeout there is one of the
-    /// seconds that it asks for, at most `most` (section 10.7); and a PROPFIND without a Depth has one of 1 (section 9.1).
-    pub fn kept(&self, alloc: Global, most: u32) -> Result<Vec<u8>, NoMemory>
+    /// seconds that it asks for, at most `most` (section 10.7); and a PROPFIND without a Depth has one of 1 (section 9.1), unless
+    /// that is left to the machine (`strict`).
+    pub fn kept(&self, alloc: Global, most: u32, strict: bool) -> Result<Vec<u8>, NoMemory>
         ensures { IfOk result (λ kept. (r : Request)
-            × IsKeptOf most self.now r × Says kept.items r) }
+            × IsKeptOf most strict self.now r × Says kept.items r) }
     {
         if is_lock(self.method()) {
             let seconds = wanted_seconds(alloc, &self.view, most)?;
             return text::lock_text(alloc, &self.view, seconds);
         }
-        if self.is_depthless() {
+        if self.gets_depth(strict) {
             return text::depth_text(alloc, &self.view);
         }
         text::other_text(alloc, &self.view)

@@ -15,6 +15,7 @@ mod response;
 mod sendable;
 #[cfg(test)]
 mod tests;
+mod uploaded;
 
 pub use ending::unlock_head;
 pub use handler::{HandleError, Handler, may_be_refused, method_of};
@@ -22,3 +23,4 @@ pub use head::{Head, is_lock, is_safe, leaves, takes_tree};
 pub use presented::{Store, present};
 pub use response::send;
 pub use sendable::is_sendable_if_any;
+pub use uploaded::{TimeRequest, time_request};

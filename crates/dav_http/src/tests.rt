@@ -4,6 +4,7 @@
 mod presented;
 mod refused;
 mod saved;
+mod uploaded;
 
 use crate::{HandleError, Handler, Head, is_sendable_if_any, leaves, send, unlock_head};
 use bytes::{Buf, Bytes};
@@ -39,6 +40,13 @@ PROPFIND /a HTTP/1.1^DEPTH: 0^^ -> PROPFIND /a HTTP/1.1^DEPTH:0^^
 # no heads
 GET /a HTTP/1.1^ -> none
 GET /a HTTP/1.1^Host : h^^ -> none
+";
+
+// The same where a PROPFIND without a Depth is left to the machine.
+const KEPT_STRICTLY: &str = "\
+PROPFIND /a HTTP/1.1^X: 1^^ -> PROPFIND /a HTTP/1.1^X:1^^
+PROPFIND /a HTTP/1.1^Depth: 1^^ -> PROPFIND /a HTTP/1.1^Depth:1^^
+LOCK /a HTTP/1.1^^ -> LOCK /a HTTP/1.1^timeout:Second-3600^^
 ";
 
 // The requests of one session with their bodies, and of each answer the status, the content-length
@@ -152,9 +160,9 @@ pub(crate) fn unescaped(alloc: Global, text: &str) -> Result<Vec<u8>, AllocError
 }
 
 // What is kept of a head, or that it is none.
-fn kept(alloc: Global, bytes: &[u8]) -> Result<Vec<u8>, AllocError> {
+fn kept(alloc: Global, bytes: &[u8], is_strict: bool) -> Result<Vec<u8>, AllocError> {
     match Head::read(bytes) {
-        Some(head) => head.kept(alloc, 3600),
+        Some(head) => head.kept(alloc, 3600, is_strict),
         None => Vec::from_slice(alloc, b"none"),
     }
 }
@@ -162,16 +170,18 @@ fn kept(alloc: Global, bytes: &[u8]) -> Result<Vec<u8>, AllocError> {
 #[test]
 fn heads_are_kept(rt: HostRuntime) -> Result<(), Fail> {
     let mut count = 0usize;
-    for row in KEPT.lines() {
-        if let Some((input, wanted)) = row.split_once(" -> ") {
-            let input = unescaped(rt.alloc(), input)?;
-            let wanted = unescaped(rt.alloc(), wanted)?;
-            let found = kept(rt.alloc(), &input)?;
-            assert!(rt; found.as_slice() == wanted.as_slice(), "{row}");
-            count = count.saturating_add(1);
+    for (rows, is_strict) in [(KEPT, false), (KEPT_STRICTLY, true)] {
+        for row in rows.lines() {
+            if let Some((input, wanted)) = row.split_once(" -> ") {
+                let input = unescaped(rt.alloc(), input)?;
+                let wanted = unescaped(rt.alloc(), wanted)?;
+                let found = kept(rt.alloc(), &input, is_strict)?;
+                assert!(rt; found.as_slice() == wanted.as_slice(), "{row}");
+                count = count.saturating_add(1);
+            }
         }
     }
-    assert!(rt; count == 20, "{count} rows");
+    assert!(rt; count == 23, "{count} rows");
     Ok(())
 }
 

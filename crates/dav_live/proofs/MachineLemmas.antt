@@ -50,17 +50,17 @@ module _ (s : Server) (came : Request) (q : RequestView) (own : (user : List ℕ
   not_run_headless none n (refused kept mine is refuses) = none kept is
 
 -- what is kept of a request has its method
-kept_method : (most : ℕ) (came kept : Request) → IsKeptOf most came kept → kept.method ≡ came.method
-kept_method most came _ (other is_other deep) = refl
-kept_method most came _ (depthless is) = refl
-kept_method most came _ (lock is times decodes) = refl
+kept_method : (most : ℕ) (strict : Bool) (came kept : Request) → IsKeptOf most strict came kept → kept.method ≡ came.method
+kept_method most strict came _ (other is_other deep) = refl
+kept_method most strict came _ (depthless is) = refl
+kept_method most strict came _ (lock is times decodes) = refl
 
 -- a request whose method is none that may be refused is run
 pub not_run_of : (s : Server) (came : Request) (q : RequestView) → IsKeptFrom came q.head → ¬ MayBeRefused came.method
     → ((user : List ℕ) → q.principal ≡ Some user → ¬ IsForeignUnlock s.state.locks came user) → (n : ℕ) → ¬ IsNotRun s came q n
 not_run_of s came q from never own _ (foreign user named unlock) = own user named unlock
-not_run_of s came q (most, kept, is_kept, says) never own n (refused mine is_mine is refuses) =
-    never (subst MayBeRefused (ap (λ (r : Request). r.method) (said_of q.head mine kept is says) ∙ kept_method most came kept is_kept) (may_be_refused s mine q.body n refuses))
+not_run_of s came q (most, strict, kept, is_kept, says) never own n (refused mine is_mine is refuses) =
+    never (subst MayBeRefused (ap (λ (r : Request). r.method) (said_of q.head mine kept is says) ∙ kept_method most strict came kept is_kept) (may_be_refused s mine q.body n refuses))
 
 -- the same, by what was asked of the machine and the request
 pub not_run_from : {at s : Server} {asked q : RequestView} (came kept : Request) (body : List ℕ) → at ≡ s → asked ≡ q

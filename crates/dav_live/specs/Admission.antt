@@ -1,8 +1,8 @@
 -- Which requests a live server runs, and what it runs of them.
-use Rattle.std.specs.Prelude.{◌≡◌, ◌≢◌, ◌<◌, ◌⊎◌, ◌↔◌, ◌==◌, ℕ, Bool, true, false, List, [], ◌∷◌, ◌++◌, Option, Some, None, Ok, Err, IsTrue, codes, count_by, drop, length, min, option_map, string_bytes, take, unwrap_or}
-use Rattle.std.specs.Str.{IsUtf8}
-use Rattle.dav_access.specs.Reading.{IsReadFault}
-use Rattle.dav_access.specs.declared.error.UsersError.{UsersError}
+use Rattle.std.specs.Prelude.{◌≡◌, ◌≢◌, ◌<◌, ◌⊎◌, ◌↔◌, ◌==◌, ◌&&◌, ℕ, Bool, true, false, List, [], ◌∷◌, ◌++◌, Option, Some, None, Ok, Err, IfSome, IsTrue, if◌then◌else◌, codes, count_by, drop, length, min, option_map, string_bytes, take, unwrap_or}
+use Rattle.std.specs.Option.{is_none, is_some}
+use Rattle.dav_access.specs.Rules.{Rules}
+use Rattle.dav_confined.specs.Leave.{Permits}
 use Rattle.dav_core.specs.World.{last_moment}
 use Rattle.dav_core.specs.declared.errors.DavError.TheVariants.{IllegalPath}
 use Rattle.dav_core.specs.declared.method.DavMethod.{DavMethod}
@@ -22,16 +22,18 @@ use Rattle.dav_live.specs.declared.admission.Admitted.{Admitted}
 use Rattle.dav_live.specs.declared.admission.Decision.{Decision}
 use Rattle.dav_live.specs.declared.admission.Decision.TheVariants.{Refused, Run}
 use Rattle.dav_live.specs.declared.admission.Reason.{Reason}
-use Rattle.dav_live.specs.declared.admission.Reason.TheVariants.{Misdirected, Unauthorized, TooLong, Outside}
+use Rattle.dav_live.specs.declared.admission.Reason.TheVariants.{Misdirected, Unauthorized, Forbidden, TooLong, Outside}
 
--- What a server goes by: the prefix of its paths, the names of its host, the most seconds for which a lock is granted, its users, if it
--- has a list of them, the moment, in seconds since 1970, the seconds that the front's steady clock told last, if it did, and the random
--- bytes of its tokens.
+-- What a server goes by: the prefix of its paths, the names of its host, the most seconds for which a lock is granted, whether a PROPFIND
+-- without a Depth is left to the machine, its users, if it has a list of them, the rules of access, if it has any, the moment, in seconds
+-- since 1970, the seconds that the front's steady clock told last, if it did, and the random bytes of its tokens.
 pub record AdmissionView : Type 0 where
   pub prefix : List ℕ
   pub hosts : List (List ℕ)
   pub lock_time : ℕ
+  pub strict : Bool
   pub users : Option (List (List ℕ × List ℕ))
+  pub rules : Option Rules
   pub moment : ℕ
   pub seconds : Option ℕ
   pub random : List ℕ
@@ -49,20 +51,44 @@ HasManySlashes r =
 abbrev pub IsOutside : List ℕ → Request → Type 0
 IsOutside prefix r = TargetNames prefix Get r.target (Err IllegalPath)
 
--- a request is for this server (RFC 9110, section 7.2), and shows that it is of this user, or of nobody where there are no users
+-- the list of which a request has to show a user; none where there are rules and it shows no name
+abbrev pub users_for : AdmissionView → Request → Option (List (List ℕ × List ℕ))
+users_for a r = if is_some a.rules && is_none (value_of (codes "authorization") r) then None else a.users
+
+-- A request shows that it is of this user, or of nobody: where there are no users, or where there are rules and it shows no name.
+abbrev pub IsMadeBy : AdmissionView → Request → Option (List ℕ) → Type 0
+IsMadeBy a r user = IsPrincipal (users_for a r) (value_of (codes "authorization") r) user
+
+-- a request is for this server (RFC 9110, section 7.2), and is of this user, or of nobody
 pub record IsLetIn (a : AdmissionView) (r : Request) (user : Option (List ℕ)) : Type 0 where
   pub host : TellsFor a.hosts (value_of (codes "host") r) true
-  pub principal : IsPrincipal a.users (value_of (codes "authorization") r) user
+  pub principal : IsMadeBy a r user
+
+-- these bytes are the head that is kept of a request, and run
+abbrev pub IsHeadKept : AdmissionView → Request → List ℕ → Type 0
+IsHeadKept a came head = (kept : Request) × IsKeptOf a.lock_time a.strict came kept × Says head kept
+
+-- by the rules, where there are any, each request with this head has leave, of this user
+abbrev pub HasLeaveIn : AdmissionView → Option (List ℕ) → List ℕ → Type 0
+HasLeaveIn a user head = IfSome a.rules (λ rules. Permits rules a.prefix user head)
+
+-- why a request of this user isn't run that has no leave
+abbrev pub reason_for : Option (List ℕ) → Reason
+reason_for None = Unauthorized
+reason_for (Some user) = Forbidden
 
 -- A request isn't run, for this reason: it is for another host (RFC 9110, section 7.4); no user is shown, but this name (RFC 9110,
--- section 15.5.2); its paths have too many slashes; or its target isn't below the prefix. With it the user.
+-- section 15.5.2); its paths have too many slashes; its target isn't below the prefix; or what would be run of it has no leave (RFC 9110,
+-- section 15.5.4). With it the user.
 pub data IsTurnedAway (a : AdmissionView) (r : Request) : Reason → List ℕ → Type 0 where
   misdirected : TellsFor a.hosts (value_of (codes "host") r) false → IsTurnedAway a r Misdirected []
   unknown : (shown : List ℕ) → TellsFor a.hosts (value_of (codes "host") r) true
-      → ShowsNoUser a.users (value_of (codes "authorization") r) shown → IsTurnedAway a r Unauthorized shown
+      → ShowsNoUser (users_for a r) (value_of (codes "authorization") r) shown → IsTurnedAway a r Unauthorized shown
   too_long : (user : Option (List ℕ)) → IsLetIn a r user → HasManySlashes r → IsTurnedAway a r TooLong (unwrap_or user [])
   outside : (user : Option (List ℕ)) → IsLetIn a r user → ¬ HasManySlashes r → IsOutside a.prefix r
       → IsTurnedAway a r Outside (unwrap_or user [])
+  without_leave : (user : Option (List ℕ)) (head : List ℕ) → IsLetIn a r user → ¬ HasManySlashes r → ¬ IsOutside a.prefix r
+      → IsHeadKept a r head → ¬ HasLeaveIn a user head → IsTurnedAway a r (reason_for user) (unwrap_or user [])
 
 -- The token for a lock that a request may create: a LOCK with a body gets that of the next number, and no other request gets one (RFC
 -- 4918, sections 6.5 and 9.10.2).
@@ -71,14 +97,15 @@ pub data IsTokenFor (random : List ℕ) (number : ℕ) (method body : List ℕ) 
   none : (method ≢ codes "LOCK") ⊎ (body ≡ []) → IsTokenFor random number method body None
 
 -- The request that is run of one that came with this body, where tokens of so many numbers were given: the head that is kept of it, the
--- body, the moment, the user whose password it shows, and the token for a lock.
+-- body, the moment, who makes it, and the token for a lock. It has leave.
 pub record IsRequestOf (a : AdmissionView) (tokens : ℕ) (came : Request) (body : List ℕ) (q : RequestView) : Type 0 where
   pub let_in : IsLetIn a came q.principal
   pub few : ¬ HasManySlashes came
   pub inside : ¬ IsOutside a.prefix came
   pub kept : Request
-  pub is_kept : IsKeptOf a.lock_time came kept
+  pub is_kept : IsKeptOf a.lock_time a.strict came kept
   pub says : Says q.head kept
+  pub leave : HasLeaveIn a q.principal q.head
   pub body_is : q.body ≡ body
   pub moment : q.moment ≡ a.moment
   pub token : IsTokenFor a.random tokens came.method body q.token
@@ -103,10 +130,11 @@ IsDecision a tokens came body (Refused refused) = IsTurnedAway a came refused.re
 IsDecision a tokens came body (Run admitted) =
     IsRequestOf a tokens came body (request_in a admitted body) × TellsSafe came admitted.only_reads
 
--- the status of a reason (RFC 9110, sections 15.5.2, 15.5.5, 15.5.15 and 15.5.20)
+-- the status of a reason (RFC 9110, sections 15.5.2, 15.5.4, 15.5.5, 15.5.15 and 15.5.20)
 abbrev pub status_of : Reason → ℕ
 status_of Misdirected = 421
 status_of Unauthorized = 401
+status_of Forbidden = 403
 status_of TooLong = 414
 status_of Outside = 404
 
@@ -124,7 +152,3 @@ after_clocks a seconds date =
 -- the random bytes after the front told these: the first sixteen of them, in the place of as many
 abbrev pub with_random : List ℕ → List ℕ → List ℕ
 with_random bytes random = take 16 bytes ++ drop (min 16 (length bytes)) random
-
--- The bytes list no users, for this reason: they aren't UTF-8; a line is wrong; or no user is there.
-abbrev pub IsUnlisted : List ℕ → UsersError → Type 0
-IsUnlisted bytes fault = IsUtf8 bytes → IsReadFault bytes fault

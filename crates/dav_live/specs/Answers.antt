@@ -2,11 +2,14 @@
 use Rattle.std.specs.Prelude.{◌≡◌, ◌⊎◌, ◌↔◌, ℕ, Bool, true, false, List, Option, Some, None, codes}
 use Rattle.std.specs.Str.{IsUtf8}
 use Rattle.http_server.specs.declared.response.Response.{Response}
+use Rattle.dav_access.specs.Rules.{Rules}
+use Rattle.dav_confined.specs.Leave.{MayUnlock}
 use Rattle.dav_core.specs.Locks.{Lock}
 use Rattle.dav_engine.specs.Caller.{Caller}
 use Rattle.dav_engine.specs.Plan.{Locks}
 use Rattle.dav_engine.specs.Reply.{Reply}
 use Rattle.dav_server.specs.Head.{IsHead, Request}
+use Rattle.dav_server.specs.Machine.{Exchange}
 use Rattle.dav_server.specs.Server.{Server}
 use Rattle.dav_http.specs.Ending.{IsUnlockHead}
 use Rattle.dav_http.specs.Holders.{NamesOwn}
@@ -50,16 +53,27 @@ abbrev pub IsForeignUnlock : Locks → Request → List ℕ → Type 0
 IsForeignUnlock locks r user =
     (r.method ≡ codes "UNLOCK") × ((text : List ℕ) × (value_of (codes "lock-token") r ≡ Some text) × IsUtf8 text × (¬ NamesOwn locks user text))
 
--- A request that came, and would be run as that one, isn't run, and is answered with this status: 403 for an UNLOCK of another's lock (RFC
--- 9110, section 15.5.4); or the status with which the server refuses it for its conditions, or for what it asks.
-pub data IsNotRun (s : Server) (came : Request) (q : RequestView) : ℕ → Type 0 where
-  foreign : (user : List ℕ) → q.principal ≡ Some user → IsForeignUnlock s.state.locks came user → IsNotRun s came q 403
-  refused : {status : ℕ} (kept : Request) → ((user : List ℕ) → q.principal ≡ Some user → ¬ IsForeignUnlock s.state.locks came user)
-      → IsHead q.head kept → Refuses s kept q.body status → IsNotRun s came q status
+-- by rules the principal of a request may end each lock that it names as an UNLOCK
+abbrev pub MayUnlockIn : Rules → Server → RequestView → Type 0
+MayUnlockIn rules s q =
+    (x : Exchange) (ls : List Lock) → x.head ≡ q.head → x.principal ≡ q.principal → s.state.locks ≡ Some ls → MayUnlock rules s.settings x ls
 
--- These bytes are the head that is kept of a request that came, whatever the longest time of a lock is.
+-- A request that came, and would be run as that one, is an UNLOCK of a lock that its user may not end: by rules, where there are any; else
+-- one that names a lock of another.
+abbrev pub IsBarred : Option Rules → Server → Request → RequestView → Type 0
+IsBarred None s came q = (user : List ℕ) × (q.principal ≡ Some user) × IsForeignUnlock s.state.locks came user
+IsBarred (Some rules) s came q = (came.method ≡ codes "UNLOCK") × (¬ MayUnlockIn rules s q)
+
+-- A request that came, and would be run as that one, isn't run, and is answered with this status: 403 for an UNLOCK of a lock that its user
+-- may not end (RFC 9110, section 15.5.4); or the status with which the server refuses it for its conditions, or for what it asks.
+pub data IsNotRun (rules : Option Rules) (s : Server) (came : Request) (q : RequestView) : ℕ → Type 0 where
+  barred : IsBarred rules s came q → IsNotRun rules s came q 403
+  refused : {status : ℕ} (kept : Request) → ¬ IsBarred rules s came q
+      → IsHead q.head kept → Refuses s kept q.body status → IsNotRun rules s came q status
+
+-- These bytes are the head that is kept of a request that came, whatever the longest time of a lock is, and whatever is left to the machine.
 abbrev pub IsKeptFrom : Request → List ℕ → Type 0
-IsKeptFrom came head = (most : ℕ) × (kept : Request) × IsKeptOf most came kept × Says head kept
+IsKeptFrom came head = (most : ℕ) × (strict : Bool) × (kept : Request) × IsKeptOf most strict came kept × Says head kept
 
 -- The request with this head is the UNLOCK of the first lock of a list whose time ended at this moment or before; none where there is no
 -- such lock (RFC 4918, sections 6.6 and 9.11).

@@ -1,6 +1,7 @@
 pub mod Line
 pub mod Clock
 pub mod Hosts
+pub mod Lists
 pub mod Admission
 pub mod Runs
 pub mod Serving

@@ -1,20 +1,23 @@
 -- How a live server answers requests and hears its front, and what of that is kept.
-use Rattle.std.specs.Prelude.{◌≡◌, ◌≢◌, ◌≤◌, ◌⊎◌, ℕ, List, [], ◌∷◌, ◌++◌, Option, Some, None, codes}
+use Rattle.std.specs.Prelude.{◌≡◌, ◌≢◌, ◌≤◌, ◌⊎◌, ◌==◌, ℕ, if◌then◌else◌, List, [], ◌∷◌, ◌++◌, Option, Some, None, codes}
 use Rattle.http_server.specs.declared.response.Response.{Response}
 use Rattle.http_server.specs.Response.{IsResponse, fields_of}
 use Rattle.httpdate.specs.Date.{date_text, unix_secs}
 use Rattle.httpdate.specs.declared.date.HttpDate.{HttpDate}
-use Rattle.dav_access.specs.Users.{ListsUsers}
-use Rattle.dav_access.specs.declared.error.UsersError.{UsersError}
+use Rattle.dav_access.specs.Rules.{Rules}
+use Rattle.dav_access.specs.RulesText.{UserList}
+use Rattle.dav_http.specs.Uploaded.{BringsTime, time_body, time_head}
 use Rattle.dav_kept.specs.Kept.{Holding, IsAnswerOf, held_by}
 use Rattle.dav_kept.specs.Records.{RequestView}
 use Rattle.dav_kept.specs.declared.handler.Effect.{Effect}
 use Rattle.dav_kept.specs.declared.kept.Kept.{Kept}
 use Rattle.dav_server.specs.Head.{IsHead, Request}
 use Rattle.dav_wire.specs.declared.answer.Asked.{Asked}
-use Rattle.dav_live.specs.Admission.{AdmissionView, IsRequestOf, IsTurnedAway, IsUnlisted, after_clocks, refusal_fields, status_of, with_random}
+use Rattle.dav_live.specs.Admission.{AdmissionView, HasLeaveIn, IsRequestOf, IsTurnedAway, after_clocks, refusal_fields, status_of, with_random}
+use Rattle.dav_live.specs.Lists.{IsFaulty, Reports}
 use Rattle.dav_live.specs.Runs.{Commits, GoesOn, Saves, StaysKept}
 use Rattle.dav_live.specs.declared.admission.Reason.{Reason}
+use Rattle.dav_live.specs.declared.lists.ListsError.{ListsError}
 use Rattle.dav_live.specs.declared.service.Service.{Service}
 
 -- what a service goes by
@@ -38,17 +41,45 @@ pub data IsRun {S : Type 0} (answers : S → RequestView → Response → S → 
   answered : (does : Effect) → IsAnswerOf answers old q own does new → IsRun answers old q own new
   full : IsResponse 507 [] [] own → new ≡ old → IsRun answers old q own new
 
+-- a request of the server's own that belongs to another one: by the same user, at the same moment
+abbrev pub belonging_to : RequestView → List ℕ → List ℕ → RequestView
+belonging_to q head body = record { moment = q.moment; principal = q.principal; token = None; head = head; body = body }
+
+-- a response that says besides that a time is kept, where it was set with this status (RFC 4918, section 9.2.1)
+pub record IsAccepted (status : ℕ) (own said : Response) : Type 0 where
+  pub fields : fields_of said ≡ fields_of own ++ (if status == 207 then (codes "x-oc-mtime", codes "accepted") ∷ [] else [])
+  pub status : said.status ≡ own.status
+  pub body : said.body ≡ own.body
+
+-- A request that was run, with this response, brought a file and told its time, which the server then sets by a request of its own, and says
+-- so; or it is no such request, or that one has no leave, and that is all.
+pub data IsTimed {S : Type 0} (answers : S → RequestView → Response → S → Type 0) (a : AdmissionView) (old : Holding S) (q : RequestView)
+    (own said : Response) (new : Holding S) : Type 0 where
+  untold : ((r : Request) (time : ℕ) → IsHead q.head r → ¬ BringsTime r own.status time) → said ≡ own → new ≡ old → IsTimed answers a old q own said new
+  without_leave : (r : Request) (time : ℕ) → IsHead q.head r → BringsTime r own.status time → ¬ HasLeaveIn a q.principal (time_head r)
+      → said ≡ own → new ≡ old → IsTimed answers a old q own said new
+  told : (r : Request) (time : ℕ) (set : Response) → IsHead q.head r → BringsTime r own.status time → HasLeaveIn a q.principal (time_head r)
+      → IsRun answers old (belonging_to q (time_head r) (time_body time)) set new → IsAccepted set.status own said → IsTimed answers a old q own said new
+
+-- A request is run with all that belongs to it, with this response: it, and then what sets the time of the file that it brought.
+pub record IsRunWhole {S : Type 0} (answers : S → RequestView → Response → S → Type 0) (a : AdmissionView) (old : Holding S) (q : RequestView)
+    (said : Response) (new : Holding S) : Type 0 where
+  pub own : Response
+  pub mid : Holding S
+  pub run : IsRun answers old q own mid
+  pub timed : IsTimed answers a mid q own said new
+
 -- The response to a request, but for its date, and what is held then: 400 where its head is none (RFC 9110, section 15.5.1); the refusal
 -- of one that isn't let in; the status of one that the server doesn't run; and else that of the request that is run of it.
-pub data IsResponseTo {S : Type 0} (answers : S → RequestView → Response → S → Type 0) (refuses : S → Request → RequestView → ℕ → Type 0)
+pub data IsResponseTo {S : Type 0} (answers : S → RequestView → Response → S → Type 0) (refuses : Option Rules → S → Request → RequestView → ℕ → Type 0)
     (a : AdmissionView) (old : Holding S) (asked : Asked) (own : Response) (new : Holding S) : Type 0 where
   no_head : ((r : Request) → ¬ IsHead asked.head r) → IsResponse 400 [] [] own → new ≡ old → IsResponseTo answers refuses a old asked own new
   turned_away : (r : Request) (reason : Reason) (user : List ℕ) → IsHead asked.head r → IsTurnedAway a r reason user
       → IsResponse (status_of reason) (refusal_fields reason) [] own → new ≡ old → IsResponseTo answers refuses a old asked own new
-  not_run : (r : Request) (q : RequestView) (status : ℕ) → IsHead asked.head r → IsRequestOf a old.tokens r asked.body q → refuses old.state r q status
+  not_run : (r : Request) (q : RequestView) (status : ℕ) → IsHead asked.head r → IsRequestOf a old.tokens r asked.body q → refuses a.rules old.state r q status
       → IsResponse status [] [] own → new ≡ old → IsResponseTo answers refuses a old asked own new
-  run : (r : Request) (q : RequestView) → IsHead asked.head r → IsRequestOf a old.tokens r asked.body q → ((status : ℕ) → ¬ refuses old.state r q status)
-      → IsRun answers old q own new → IsResponseTo answers refuses a old asked own new
+  run : (r : Request) (q : RequestView) → IsHead asked.head r → IsRequestOf a old.tokens r asked.body q → ((status : ℕ) → ¬ refuses a.rules old.state r q status)
+      → IsRunWhole answers a old q own new → IsResponseTo answers refuses a old asked own new
 
 -- the response as it is sent: with the date of a moment (RFC 9110, section 6.6.1)
 pub record IsDated (moment : ℕ) (own sent : Response) : Type 0 where
@@ -59,7 +90,7 @@ pub record IsDated (moment : ℕ) (own sent : Response) : Type 0 where
   pub body : sent.body ≡ own.body
 
 -- A service answers a request: what it goes by stays as it was, and the run of its records goes on.
-pub record Serves {H J : Type 0} (answers : H → RequestView → Response → H → Type 0) (refuses : H → Request → RequestView → ℕ → Type 0) (is_clean : J → Type 0)
+pub record Serves {H J : Type 0} (answers : H → RequestView → Response → H → Type 0) (refuses : Option Rules → H → Request → RequestView → ℕ → Type 0) (is_clean : J → Type 0)
     (kept : J → List (List ℕ) → Type 0) (old : Service H J) (asked : Asked) (sent : Response) (new : Service H J) : Type 0 where
   pub own : Response
   pub responds : IsResponseTo answers refuses (admission_of old) (held_of old) asked own (held_of new)
@@ -79,11 +110,11 @@ IsGreeted old bytes new =
     (admission_of new ≡ record (admission_of old) { random = with_random bytes (admission_of old).random })
     × (kept_of new ≡ kept_of old)
 
--- The list of users was written anew. They are those that it lists; or, where it lists none, they are as they were.
+-- The list of users or the rules were written anew. Both are as they are reported; or, where one is at fault, both are as they were.
 pub data IsListed {H J : Type 0} (old : Service H J) (bytes : List ℕ) (new : Service H J) : Type 0 where
-  anew : (users : List (List ℕ × List ℕ)) → ListsUsers bytes users → users ≢ []
-      → admission_of new ≡ record (admission_of old) { users = Some users } → kept_of new ≡ kept_of old → IsListed old bytes new
-  refused : (fault : UsersError) → IsUnlisted bytes fault → StaysAll old new → IsListed old bytes new
+  anew : (users : UserList) (rules : Option Rules) → Reports bytes users rules
+      → admission_of new ≡ record (admission_of old) { users = users; rules = rules } → kept_of new ≡ kept_of old → IsListed old bytes new
+  refused : (fault : ListsError) → IsFaulty bytes fault → StaysAll old new → IsListed old bytes new
 
 -- ---- locks end
 

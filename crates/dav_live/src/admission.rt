@@ -2,16 +2,18 @@
 ghost use Rattle.std.specs.Prelude.{◌≡◌, ◌≢◌, ◌↔◌, [], IfOk, IsTrue, OnOk, option_map, unwrap_or, string_bytes};
 ghost use Rattle.http_server.specs.Response.{IsBlank, IsResponse};
 ghost use Rattle.dav_core.specs.declared.errors.DavError.TheVariants.{IllegalPath, Memory};
-ghost use Rattle.dav_live.specs.Admission.{HasManySlashes, IsOutside, IsTokenFor, refusal_fields, slashes_in, status_of};
+ghost use Rattle.dav_live.specs.Admission.{HasManySlashes, IsOutside, IsTokenFor, reason_for, refusal_fields, slashes_in, status_of};
 ghost use Rattle.dav_live.specs.declared.admission.RefusedRequest.{RefusedRequest as RefusedValue};
 
 use crate::clock::moment_after;
 use crate::hosts::is_for;
+use crate::lists::{Lists, ListsError, texts_in};
 use crate::rejection::{may_be_long, rejection_of};
 use crate::settings::Settings;
 use crate::token::token_text;
 use bytes::Bytes;
-use dav_access::{Refusal, Users, UsersError, principal_of};
+use dav_access::{Refusal, Rules, Users, principal_of};
+use dav_confined::has_leave;
 use dav_core::errors::DavError;
 use dav_core::method::DavMethod;
 use dav_http::{Head, is_lock, is_safe};
@@ -23,7 +25,6 @@ use http_header::{HeaderValue, WWW_AUTHENTICATE};
 use http_server::Response;
 use std::alloc::{AllocError, Global};
 use std::marker::Model;
-use std::str;
 
 /// The most slashes in a target or a Destination.
 const MOST_SLASHES: usize = 1024;
@@ -33,8 +34,10 @@ const MOST_SLASHES: usize = 1024;
 pub enum Reason {
     /// It is for another host (421).
     Misdirected,
-    /// It doesn't show a user (401).
+    /// It doesn't show a user, and has no leave else (401).
     Unauthorized,
+    /// It has no leave, by the rules (403).
+    Forbidden,
     /// Its target or its Destination has too many slashes (414).
     TooLong,
     /// Its target isn't at or below the prefix (404).
@@ -42,13 +45,14 @@ pub enum Reason {
 }
 
 impl Reason {
-    /// The status of the response (RFC 9110, sections 15.5.2, 15.5.5, 15.5.15 and 15.5.20).
+    /// The status of the response (RFC 9110, sections 15.5.2, 15.5.4, 15.5.5, 15.5.15 and 15.5.20).
     pub fn status(self) -> StatusCode
         ensures { result ≡ status_of self }
     {
         match self {
             Reason::Misdirected => StatusCode::MISDIRECTED_REQUEST,
             Reason::Unauthorized => StatusCode::UNAUTHORIZED,
+            Reason::Forbidden => StatusCode::FORBIDDEN,
             Reason::TooLong => StatusCode::URI_TOO_LONG,
             Reason::Outside => StatusCode::NOT_FOUND,
         }
@@ -91,6 +95,7 @@ pub struct Admission {
     alloc: Global,
     settings: Settings,
     users: Option<Users>,
+    rules: Option<Rules>,
     moment: u64,
     /// The seconds that the front's steady clock told last; none before its first report.
     seconds: Option<u64>,
@@ -108,7 +113,9 @@ impl Model for Admission {
       prefix = string_bytes a.settings.prefix;
       hosts = map string_bytes a.settings.hosts.items;
       lock_time = a.settings.lock_time;
+      strict = a.settings.strict;
       users = a.users;
+      rules = a.rules;
       moment = a.moment;
       seconds = a.seconds;
       random = a.random;
@@ -182,19 +189,27 @@ fn refused(reason: Reason, user: String) -> Decision
 }
 
 impl Admission {
-    ghost use Rattle.std.specs.Prelude.{◌≡◌, ◌≢◌, ◌≤◌, ◌<◌, ◌↔◌, ℕ, List, [], Some, None, IfOk, IfSome, IsFalse, IsTrue, MatchOption, map, min, option_map, replicate, string_bytes};
-    ghost use Rattle.std.specs.Option.{is_some};
-    ghost use Rattle.dav_access.specs.Users.{IsName, ListsUsers};
+    ghost use Rattle.std.specs.Prelude.{◌≡◌, ◌≤◌, ◌<◌, ◌↔◌, ℕ, Option, Some, None, IfErr, IfOk, IfSome, IsFalse, IsTrue, MatchOption, codes, map, min, option_map, replicate, string_bytes};
+    ghost use Rattle.std.specs.Bool.{Decides};
+    ghost use Rattle.std.specs.Option.{is_some, option_copied};
+    ghost use Rattle.dav_access.specs.Principals.{IsRefusal};
+    ghost use Rattle.dav_access.specs.Rules.{Rules as RulesValue};
+    ghost use Rattle.dav_access.specs.RulesText.{UserList};
+    ghost use Rattle.dav_access.specs.Users.{IsName};
     ghost use Rattle.dav_core.specs.World.{last_moment};
-    ghost use Rattle.dav_live.specs.Admission.{HasManySlashes, IsDecision, IsLetIn, IsOutside, IsRequestOf, IsUnlisted, TellsSafe, after_clocks, request_in, with_random};
+    ghost use Rattle.dav_live.specs.Admission.{HasManySlashes, HasLeaveIn, IsDecision, IsHeadKept, IsLetIn, IsMadeBy, IsOutside, IsRequestOf, TellsSafe, after_clocks, request_in, users_for, with_random};
+    ghost use Rattle.dav_live.specs.Hosts.{value_of};
+    ghost use Rattle.dav_live.specs.Lists.{IsFaulty, Reports};
 
-    /// What a server with these settings and users goes by at a moment, at most the end of the year 9999.
-    pub fn new(alloc: Global, settings: Settings, users: Option<Users>, moment: u64) -> Admission
+    /// What a server with these settings, users and rules goes by at a moment, at most the end of the year 9999.
+    pub fn new(alloc: Global, settings: Settings, lists: Lists, moment: u64) -> Admission
         ensures { result ≡ record {
           prefix = string_bytes settings.prefix;
           hosts = map string_bytes settings.hosts.items;
           lock_time = settings.lock_time;
-          users = users;
+          strict = settings.strict;
+          users = lists.users;
+          rules = lists.rules;
           moment = min moment last_moment;
           seconds = None;
           random = replicate 16 0;
@@ -203,7 +218,8 @@ impl Admission {
         Admission {
             alloc,
             settings,
-            users,
+            users: lists.users,
+            rules: lists.rules,
             moment: moment.min(LAST_MOMENT),
             seconds: None,
             random: [0; 16],
@@ -216,6 +232,13 @@ impl Admission {
         ensures date { result ≤ last_moment }
     {
         self.moment
+    }
+
+    /// The rules, if there are any.
+    pub fn rules(&self) -> Option<&Rules>
+        ensures { option_copied result ≡ self.now.rules }
+    {
+        self.rules.as_ref()
     }
 
     /// Whether the front reported its clocks.
@@ -233,10 +256,39 @@ impl Admission {
         if !is_for(head, &self.settings.hosts) {
             return Ok(refused(Reason::Misdirected, String::new(self.alloc)));
         }
-        match principal_of(self.alloc, &mut self.users, head.value("authorization")) {
+        match self.principal_of(head) {
             Ok(principal) => self.admit(principal, head, body, tokens),
             Err(Refusal::Unknown(shown)) => Ok(refused(Reason::Unauthorized, shown)),
             Err(Refusal::Memory) => Err(Stop::Memory),
+        }
+    }
+
+    // Who makes a request: nobody who shows no name, where there are rules.
+    fn principal_of(&mut self, head: &Head<'_>) -> Result<Option<String>, Refusal>
+        ensures same { self.new ≡ self.old }
+        ensures principal { IfOk result
+            (λ name. IsMadeBy self.old head.now (option_map string_bytes name)) }
+        ensures refusal { IfErr result (IsRefusal (users_for self.old head.now)
+            (value_of (codes "authorization") head.now)) }
+        ensures named { IfOk result (λ name. IfSome name (λ n. IsName (string_bytes n))) }
+    {
+        match head.value("authorization") {
+            None if self.rules.is_some() => Ok(None),
+            shown => principal_of(self.alloc, &mut self.users, shown),
+        }
+    }
+
+    /// Whether a request has leave of which this head is kept, of this user, or of nobody.
+    pub fn has_leave(&self, user: Option<&str>, kept: &[u8]) -> Result<bool, Stop>
+        ensures { IfOk result (λ leave.
+            Decides leave (HasLeaveIn self.now (option_copied user.entry) kept.now)) }
+    {
+        match &self.rules {
+            Some(rules) => {
+                let prefix = self.settings.prefix.as_str();
+                Ok(has_leave(self.alloc, rules, user, kept, prefix)?)
+            }
+            None => Ok(true),
         }
     }
 
@@ -258,13 +310,18 @@ impl Admission {
         if is_outside(self.alloc, head, self.settings.prefix.as_str())? {
             return Ok(refused_of(self.alloc, Reason::Outside, principal));
         }
-        Ok(Decision::Run(self.admitted(principal, head, body, tokens)?))
+        let kept = head.kept(self.alloc, self.settings.lock_time, self.settings.strict)?;
+        if !self.has_leave(principal.as_deref(), &kept)? {
+            return Ok(refused_of(self.alloc, reason_for(&principal), principal));
+        }
+        Ok(Decision::Run(self.admitted(principal, kept, head, body, tokens)?))
     }
 
-    // What is run of a request that is let in.
+    // What is run of a request that is let in, and has leave, of which this head is kept.
     fn admitted(
         &self,
         principal: Option<String>,
+        kept: Vec<u8>,
         head: &Head<'_>,
         body: &Bytes,
         tokens: u64,
@@ -272,11 +329,12 @@ impl Admission {
         requires let_in { IsLetIn self.now head.now (option_map string_bytes principal) }
         requires few { ¬ HasManySlashes head.now }
         requires inside { ¬ IsOutside self.now.prefix head.now }
+        requires kept { IsHeadKept self.now head.now kept.items }
+        requires leave { HasLeaveIn self.now (option_map string_bytes principal) kept.items }
         ensures request { IfOk result (λ admitted. IsRequestOf self.now tokens head.now body.now
             (request_in self.now admitted body.now)) }
         ensures safe { IfOk result (λ admitted. TellsSafe head.now admitted.only_reads) }
     {
-        let kept = head.kept(self.alloc, self.settings.lock_time)?;
         let token = token_for(self.alloc, &self.random, tokens, head, body)?;
         Ok(Admitted {
             head: kept,
@@ -297,14 +355,30 @@ impl Admission {
         }
     }
 
-    // Judges who makes a request: nobody who is known may not (RFC 9110, section 15.5.2).
+    // Judges who makes a request, and whether that has leave (RFC 9110, sections 15.5.2 and 15.5.4).
     fn judge_sender(&mut self, head: &Head<'_>) -> Result<Option<(Rejection, String)>, Stop>
         ensures { self.new ≡ self.old }
     {
-        match principal_of(self.alloc, &mut self.users, head.value("authorization")) {
-            Ok(_) => Ok(None),
+        match self.principal_of(head) {
+            Ok(principal) => self.judge_leave(principal, head),
             Err(Refusal::Unknown(shown)) => Ok(Some((Rejection::Unauthorized, shown))),
             Err(Refusal::Memory) => Err(Stop::Memory),
+        }
+    }
+
+    // Judges whether a request has leave, of this user.
+    fn judge_leave(
+        &self,
+        principal: Option<String>,
+        head: &Head<'_>,
+    ) -> Result<Option<(Rejection, String)>, Stop> {
+        let kept = head.kept(self.alloc, self.settings.lock_time, self.settings.strict)?;
+        if self.has_leave(principal.as_deref(), &kept)? {
+            return Ok(None);
+        }
+        match principal {
+            Some(user) => Ok(Some((Rejection::Forbidden, user))),
+            None => Ok(Some((Rejection::Unauthorized, String::new(self.alloc)))),
         }
     }
 
@@ -316,23 +390,21 @@ impl Admission {
         self.random[..len].copy_from_slice(&bytes[..len]);
     }
 
-    /// Takes the list of the users anew. The fault of one that isn't taken: then the users are as they were.
-    pub fn hear_users(&mut self, bytes: &[u8]) -> Result<Option<UsersError>, Stop>
+    /// Takes the list of the users and the rules anew, both or neither. The fault of those that aren't taken: then both are as they were.
+    pub fn hear_users(&mut self, bytes: &[u8]) -> Result<Option<ListsError>, Stop>
         ensures { IfOk result (λ fault. MatchOption fault
-            ((users : List (List ℕ × List ℕ)) × ListsUsers bytes.now users × (users ≢ [])
-            × (self.new ≡ record self.old { users = Some users }))
-            (λ f. IsUnlisted bytes.now f × (self.new ≡ self.old))) }
+            ((users : UserList) × (rules : Option RulesValue) × Reports bytes.now users rules
+            × (self.new ≡ record self.old { users = users; rules = rules }))
+            (λ f. IsFaulty bytes.now f × (self.new ≡ self.old))) }
     {
-        let read = match str::from_utf8(bytes) {
-            Ok(text) => Users::read(self.alloc, text),
-            Err(_) => Err(UsersError::Nobody),
-        };
-        match read {
-            Ok(users) => {
-                self.users = Some(users);
+        let (users, access) = texts_in(bytes);
+        match Lists::read(self.alloc, users, access) {
+            Ok(lists) => {
+                self.users = lists.users;
+                self.rules = lists.rules;
                 Ok(None)
             }
-            Err(UsersError::Memory) => Err(Stop::Memory),
+            Err(ListsError::Memory) => Err(Stop::Memory),
             Err(error) => Ok(Some(error)),
         }
     }
@@ -348,6 +420,16 @@ impl Admission {
         self.moment = moment;
         self.seconds = Some(seconds);
         is_later
+    }
+}
+
+// Why a request of this user isn't run that has no leave.
+fn reason_for(user: &Option<String>) -> Reason
+    ensures { result ≡ reason_for (option_map string_bytes user.now) }
+{
+    match user {
+        Some(_) => Reason::Forbidden,
+        None => Reason::Unauthorized,
     }
 }
 

@@ -12,6 +12,7 @@ mod fault;
 mod hosts;
 pub mod laws;
 mod line;
+mod lists;
 mod live;
 mod machine;
 mod page;
@@ -23,7 +24,8 @@ mod tests;
 mod token;
 mod told;
 
-pub use dav_access::{Users, UsersError};
+pub use dav_access::{AccessError, UsersError};
 pub use fault::{Fault, OpenError};
+pub use lists::{Lists, ListsError};
 pub use live::{Live, Watch};
 pub use settings::Settings;

@@ -4,10 +4,10 @@ ghost use Rattle.dav_journal.specs.Pair.{IsCleanPair, IsReadingPair};
 ghost use Rattle.dav_live.specs.LiveRun.{service_of};
 
 use crate::fault::{Fault, OpenError};
+use crate::lists::Lists;
 use crate::machine::Machine;
 use crate::service::{Service, preface};
 use crate::settings::Settings;
-use dav_access::Users;
 use dav_http::Handler;
 use dav_journal::Pair;
 use dav_kept::adopt;
@@ -75,7 +75,7 @@ impl<D: Disk + Drop> Live<D> {
         alloc: Global,
         one: D,
         other: D,
-        users: Option<Users>,
+        lists: Lists,
         settings: Settings,
     ) -> Result<Live<D>, OpenError>
         ensures run { IfOk result (λ l. (start : Option Snapshot) × (blocks : List (List ℕ))
@@ -86,7 +86,7 @@ impl<D: Disk + Drop> Live<D> {
         let journal = opened(alloc, one, other, preface(settings.prefix.as_str()))?;
         let handler = Handler::new(alloc, settings.prefix.as_str())?;
         let machine = Machine::new(alloc, handler);
-        let service = Service::open(alloc, machine, journal, users, settings)?;
+        let service = Service::open(alloc, machine, journal, lists, settings)?;
         live_of(alloc, service)
     }
 

@@ -13,6 +13,8 @@ ghost use Rattle.dav_live.specs.Answers.{AsksToSee, IsAnswer, IsSentFor, caller_
 use crate::ends::Ends;
 use crate::page;
 use bytes::Bytes;
+use dav_access::Rules;
+use dav_confined::may_unlock;
 use dav_core::errors::NoMemory;
 use dav_engine::{Caller, Reply, ReplyBody};
 use dav_http::{
@@ -20,6 +22,7 @@ use dav_http::{
     send, unlock_head,
 };
 use dav_kept::{Effect, HandleError, Handles, Request};
+use dav_presented::typed::with_types;
 use dav_saved::LoadError;
 use http::StatusCode;
 use http_server::Response;
@@ -71,10 +74,10 @@ fn is_unlock(method: &[u8]) -> bool
 }
 
 impl Machine {
-    ghost use Rattle.std.specs.Prelude.{◌≡◌, List, ℕ, Some, option_map};
+    ghost use Rattle.std.specs.Prelude.{◌≡◌, List, ℕ, Some, IfOk, option_map};
     ghost use Rattle.std.specs.Option.{option_copied};
     ghost use Rattle.std.specs.Bool.{Decides};
-    ghost use Rattle.dav_live.specs.Answers.{IsForeignUnlock};
+    ghost use Rattle.dav_live.specs.Answers.{IsBarred, IsForeignUnlock, MayUnlockIn};
     ghost use Rattle.std.specs.Str.{IsUtf8};
     ghost use Rattle.dav_http.specs.Holders.{NamesOwn};
 
@@ -104,6 +107,37 @@ impl Machine {
             }
             None => false,
         }
+    }
+
+    // Whether the principal of a request may end each lock that it names as an UNLOCK, by rules.
+    fn may_unlock(&self, rules: &Rules, request: &Request<'_>) -> Result<bool, NoMemory>
+        ensures { IfOk result (λ may.
+            Decides may (MayUnlockIn rules.now self.now request.now)) }
+    {
+        let Some(locks) = self.handler.locks() else {
+            return Ok(true);
+        };
+        let (who, prefix) = (request.principal, self.handler.prefix());
+        may_unlock(self.alloc, rules, who, request.head, prefix, locks)
+    }
+
+    // Whether a request is an UNLOCK of a lock that its principal may not end, by rules, where there are any.
+    fn is_barred(
+        &self,
+        rules: Option<&Rules>,
+        head: &Head<'_>,
+        request: &Request<'_>,
+    ) -> Result<bool, NoMemory>
+        ensures { IfOk result (λ is. Decides is
+            (IsBarred (option_copied rules.entry) self.now head.now request.now)) }
+    {
+        let Some(rules) = rules else {
+            return Ok(self.is_foreign(head, request.principal));
+        };
+        if !is_unlock(head.method()) {
+            return Ok(false);
+        }
+        Ok(!self.may_unlock(rules, request)?)
     }
 
     /// The machine of a server.
@@ -185,7 +219,7 @@ impl Machine {
         }
         let is_head = is_head(method_of(request.head));
         let prefix = self.handler.prefix();
-        show_tree(self.alloc, &reply.body, prefix, is_head, response)
+        show_tree(self.alloc, reply.body, prefix, is_head, response)
     }
 }
 
@@ -200,10 +234,10 @@ fn left_only(head: &[u8], reply: Reply) -> Result<Reply, HandleError>
     }
 }
 
-// Fills the response with a page of what a PROPFIND told; false where that is no element tree.
+// Fills the response with a page of what a PROPFIND told, with the times that clients set; false where that is no element tree.
 fn show_tree(
     alloc: Global,
-    body: &ReplyBody,
+    body: ReplyBody,
     prefix: &str,
     is_head: bool,
     response: &mut Response,
@@ -213,7 +247,8 @@ fn show_tree(
 {
     match body {
         ReplyBody::Tree(tree) => {
-            page::show(alloc, tree, prefix, is_head, response)?;
+            let tree = with_types(alloc, tree)?;
+            page::show(alloc, &tree, prefix, is_head, response)?;
             Ok(true)
         }
         _ => Ok(false),
@@ -360,14 +395,15 @@ impl Ends for Machine {
         self.available.set(available);
     }
 
-    ghost refuses = { λ server came q status. IsNotRun server came q status };
+    ghost refuses = { λ rules server came q status. IsNotRun rules server came q status };
 
     fn refusal(
         &self,
+        rules: Option<&Rules>,
         head: &Head<'_>,
         request: &Request<'_>,
     ) -> Result<Option<StatusCode>, NoMemory> {
-        if self.is_foreign(head, request.principal) {
+        if self.is_barred(rules, head, request)? {
             return Ok(Some(StatusCode::FORBIDDEN));
         }
         if !may_be_refused(head.method()) {

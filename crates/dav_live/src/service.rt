@@ -5,10 +5,10 @@ mod hearing;
 use crate::admission::Admission;
 use crate::ends::Ends;
 use crate::fault::OpenError;
+use crate::lists::Lists;
 use crate::live::Watch;
 use crate::settings::Settings;
 use crate::told::Told;
-use dav_access::Users;
 use dav_kept::{Keeps, Kept, KeptError};
 use dav_wire::Stop;
 use std::alloc::Global;
@@ -41,7 +41,7 @@ impl<H: Ends + Drop, J: Keeps + Drop> Service<H, J> {
         alloc: Global,
         handler: H,
         journal: J,
-        users: Option<Users>,
+        lists: Lists,
         settings: Settings,
     ) -> Result<Service<H, J>, OpenError>
         ensures run { IfOk result (λ s. (start : Option Snapshot) × (blocks : List (List ℕ))
@@ -54,7 +54,9 @@ impl<H: Ends + Drop, J: Keeps + Drop> Service<H, J> {
           prefix = string_bytes settings.prefix;
           hosts = map string_bytes settings.hosts.items;
           lock_time = settings.lock_time;
-          users = users;
+          strict = settings.strict;
+          users = lists.users;
+          rules = lists.rules;
           moment = min (held_of s).latest last_moment;
           seconds = None;
           random = replicate 16 0;
@@ -66,7 +68,7 @@ impl<H: Ends + Drop, J: Keeps + Drop> Service<H, J> {
         let short_journal = settings.short_journal;
         Ok(Service {
             alloc,
-            admission: Admission::new(alloc, settings, users, kept.latest()),
+            admission: Admission::new(alloc, settings, lists, kept.latest()),
             kept,
             told,
             most_body,

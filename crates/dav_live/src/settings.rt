@@ -9,6 +9,9 @@ pub struct Settings {
     pub hosts: Vec<String>,
     /// The most seconds for which a lock is granted.
     pub lock_time: u32,
+    /// Whether a PROPFIND without a Depth is left to the machine, which tells of a folder's members alone, and of a file nothing;
+    /// else it is one of Depth 1 (RFC 4918, section 9.1).
+    pub strict: bool,
     /// The most bytes of a body, but for XML.
     pub most_body: u64,
     /// The most bytes of the bodies that are being read, of all connections together.

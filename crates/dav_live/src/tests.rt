@@ -1,4 +1,5 @@
-//! Heads, tokens, lines of the log and pages, as rows of text.
+//! Who may come in and do what, heads, tokens, lines of the log and pages, as rows of text.
+mod access;
 mod heads;
 mod pages;
 mod words;

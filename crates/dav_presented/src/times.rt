@@ -69,8 +69,8 @@ fn moment_in(alloc: Global, property: &Element) -> Result<Option<u64>, NoMemory>
     }
 }
 
-// A moment as HTTP writes it.
-fn date_text(alloc: Global, moment: u64) -> Result<String, NoMemory>
+/// A moment, in seconds since 1970, at most the end of 9999, as a date of HTTP (RFC 9110, section 5.6.7). `Err` where there is no memory.
+pub fn date_text(alloc: Global, moment: u64) -> Result<String, NoMemory>
     requires { moment ≤ last_moment }
     ensures { IfOk result (λ t. string_bytes t ≡ date_text_of moment) }
 {

@@ -14,7 +14,7 @@ status_after Memory = 3
 status_after Disk = 5
 
 -- the exit status of a program that can't begin: 3 where memory ran out, 4 where the state is damaged, gone or of another version, 5 where the
--- disk failed or what is dropped can't be kept, and 1 for arguments, users, prefixes and a state that is in use
+-- disk failed or what is dropped can't be kept, and 1 for arguments, users, rules of access, prefixes and a state that is in use
 abbrev pub status_refused : Refusal → ℕ
 status_refused refusal.Memory = 3
 status_refused (refusal.Foreign folder) = 4
@@ -24,7 +24,7 @@ status_refused (refusal.Cut folder) = 5
 status_refused (refusal.Disk folder) = 5
 status_refused (refusal.Options error) = 1
 status_refused (refusal.Prefix prefix) = 1
-status_refused (refusal.UsersFile folder) = 1
-status_refused (refusal.Users folder error) = 1
+status_refused (refusal.Unread path) = 1
+status_refused (refusal.Lists folder error) = 1
 status_refused (refusal.State folder) = 1
 status_refused (refusal.OtherPrefix folder) = 1

@@ -3,7 +3,7 @@
 //!
 //! That a state was begun is told by FOLDER/state.begun: where that is there, and no block of the state, the state is gone.
 //!
-//! Exit status: 0 the input ended; 1 the arguments, the folder or the users are wrong, or the state is in use; 2 a report wasn't
+//! Exit status: 0 the input ended; 1 the arguments, the folder, the users or the rules of access are wrong, or the state is in use; 2 a report wasn't
 //! understood, or a pipe failed; 3 memory ran out; 4 the state is damaged or of another version, and nothing was changed; 5 the disk
 //! is full or failed.
 #![tactic(auto)]
@@ -18,7 +18,7 @@ mod rest;
 mod watcher;
 
 use begun::{note_begun, see_begun};
-use dav_live::{Fault, Live, Users, UsersError};
+use dav_live::{Fault, Lists, ListsError, Live};
 use options::Options;
 use refusal::{Refusal, refused, status_of};
 use rest::keep_rest;
@@ -26,7 +26,6 @@ use sqlite_disk::Files;
 use sqlite_std_file::{File, Unknown, open};
 use std::alloc::Global;
 use std::process::ExitCode;
-use std::rt::Runtime;
 use std::{env, fs, io};
 use watcher::Watcher;
 
@@ -42,35 +41,41 @@ fn status_after(fault: Fault) -> u8
     }
 }
 
-// The users of a folder, where it has a file of them.
-fn users_in<R: Runtime>(rt: &R, alloc: Global, folder: &str) -> Result<Option<Users>, Refusal> {
-    let path = format!(in alloc; "{folder}/users")?;
+// The text of a file, where it is there.
+fn text_of(rt: &HostRuntime, path: String) -> Result<Option<Vec<u8>>, Refusal> {
     let text = match fs::exists(rt, path.as_str()) {
         Ok(false) => return Ok(None),
-        Ok(true) => fs::read_to_string(rt, path.as_str()),
+        Ok(true) => fs::read(rt, path.as_str()),
         Err(error) => Err(error),
     };
-    let Ok(text) = text else {
-        return Err(Refusal::UsersFile(String::from_str(alloc, folder)?));
-    };
-    match Users::read(alloc, text.as_str()) {
-        Ok(users) => Ok(Some(users)),
-        Err(UsersError::Memory) => Err(Refusal::Memory),
-        Err(error) => Err(Refusal::Users(String::from_str(alloc, folder)?, error)),
+    match text {
+        Ok(text) => Ok(Some(text)),
+        Err(_) => Err(Refusal::Unread(path)),
+    }
+}
+
+// The users and the rules of access of a folder, where it has files of them.
+fn lists_in(rt: &HostRuntime, alloc: Global, folder: &str) -> Result<Lists, Refusal> {
+    let users = text_of(rt, format!(in alloc; "{folder}/users")?)?;
+    let access = text_of(rt, format!(in alloc; "{folder}/access")?)?;
+    match Lists::read(alloc, users.as_deref(), access.as_deref()) {
+        Ok(lists) => Ok(lists),
+        Err(ListsError::Memory) => Err(Refusal::Memory),
+        Err(error) => Err(Refusal::Lists(String::from_str(alloc, folder)?, error)),
     }
 }
 
 // The server of a folder.
 fn open_live(rt: &HostRuntime, alloc: Global, options: Options) -> Result<Live<File>, Refusal> {
     let Options { folder, settings } = options;
-    let users = users_in(rt, alloc, folder.as_str())?;
+    let lists = lists_in(rt, alloc, folder.as_str())?;
     let path = format!(in alloc; "{folder}/state")?;
     let Ok(files) = open(rt, path.as_str(), Unknown) else {
         return Err(Refusal::State(folder));
     };
     let Files { db, log } = files;
     let prefix = settings.prefix.clone()?;
-    let mut live = match Live::open(alloc, db, log, users, settings) {
+    let mut live = match Live::open(alloc, db, log, lists, settings) {
         Ok(live) => live,
         Err(error) => return Err(refused(folder, prefix, error)),
     };

@@ -3,7 +3,7 @@ ghost use Rattle.std.specs.Prelude.{◌≡◌};
 ghost use Rattle.dav_serve.specs.Status.{status_refused};
 
 use crate::options::OptionsError;
-use dav_live::{OpenError, UsersError};
+use dav_live::{ListsError, OpenError};
 use std::alloc::AllocError;
 use thiserror::Error;
 
@@ -16,12 +16,12 @@ pub enum Refusal {
     /// The prefix is none.
     #[error("--prefix: '{0}' isn't a path as /dav or /team/files")]
     Prefix(String),
-    /// The users of the folder can't be read.
-    #[error("{0}/users can't be read")]
-    UsersFile(String),
-    /// The users of the folder aren't such a list.
-    #[error("{0}/users: {1}")]
-    Users(String, UsersError),
+    /// This file can't be read.
+    #[error("{0} can't be read")]
+    Unread(String),
+    /// The users or the rules of access of the folder aren't what they are to be.
+    #[error("{0}/{1}")]
+    Lists(String, ListsError),
     /// The state of the folder can't be opened, or is in use.
     #[error("the state in {0} can't be opened: the folder is missing, or another server has it")]
     State(String),
@@ -85,8 +85,8 @@ pub fn status_of(refusal: &Refusal) -> u8
         Refusal::Cut(_) | Refusal::Disk(_) => 5,
         Refusal::Options(_)
         | Refusal::Prefix(_)
-        | Refusal::UsersFile(_)
-        | Refusal::Users(_, _)
+        | Refusal::Unread(_)
+        | Refusal::Lists(_, _)
         | Refusal::State(_)
         | Refusal::OtherPrefix(_) => 1,
     }

@@ -50,8 +50,17 @@ fn are_own_or_unnamed(ls: &MemLs, user: &str, text: &str) -> bool
 }
 
 impl Handler {
+    ghost use Rattle.std.specs.Prelude.{◌≡◌};
     ghost use Rattle.std.specs.Bool.{Decides};
+    ghost use Rattle.std.specs.Option.{option_copied};
     ghost use Rattle.dav_http.specs.Holders.{NamesOwn};
+
+    /// The locks, if there is a list of them. Nothing changes.
+    pub fn locks(&self) -> Option<&MemLs>
+        ensures { option_copied result ≡ self.now.server.state.locks }
+    {
+        self.handler.locks()
+    }
 
     /// Whether a text has no token of a lock but this user's own: so an UNLOCK with it ends no other's (RFC 4918, sections 6.4
     /// and 9.11).

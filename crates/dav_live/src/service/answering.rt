@@ -4,7 +4,7 @@ ghost use Rattle.std.specs.Option.{option_copied};
 ghost use Rattle.dav_core.specs.World.{last_moment};
 ghost use Rattle.dav_kept.specs.Records.{IsRecord};
 ghost use Rattle.dav_live.specs.Admission.{AdmissionView, request_in};
-ghost use Rattle.dav_live.specs.Serving.{IsDated};
+ghost use Rattle.dav_live.specs.Serving.{IsAccepted, IsDated};
 
 use crate::admission::{Admitted, Decision, refuse};
 use crate::ends::Ends;
@@ -12,24 +12,25 @@ use crate::rejection::is_plain_read;
 use crate::service::{Service, stop_of};
 use crate::told::Replied;
 use bytes::Bytes;
-use dav_http::Head;
+use dav_http::{Head, TimeRequest, time_request};
 use dav_kept::{Keeps, Request};
 use dav_wire::{Answerer, Asked, Rejection, Stop};
 use http::StatusCode;
-use http_header::{DATE, HeaderValue};
+use http_header::{DATE, HeaderName, HeaderValue};
 use http_server::Response;
 use httpdate::HttpDate;
-use std::alloc::Global;
+use std::alloc::{AllocError, Global};
 
 impl<H: Ends + Drop, J: Keeps + Drop> Service<H, J> {
     ghost use Rattle.std.specs.Prelude.{◌≡◌, ◌⊎◌, ℕ, List, [], OnOk, option_map, string_bytes};
+    ghost use Rattle.http_server.specs.declared.response.Response.{Response as Sent};
     ghost use Rattle.http_server.specs.Response.{IsBlank, IsResponse};
     ghost use Rattle.dav_server.specs.Head.{IsHead};
     ghost use Rattle.dav_live.specs.Numbered.{HasNumber};
     ghost use Rattle.dav_live.specs.Answers.{IsKeptFrom};
     ghost use Rattle.dav_live.specs.Admission.{request_in};
     ghost use Rattle.dav_live.specs.Runs.{GoesOn};
-    ghost use Rattle.dav_live.specs.Serving.{IsResponseTo, IsRun, StaysAll, admission_of, held_of, kept_of};
+    ghost use Rattle.dav_live.specs.Serving.{IsAccepted, IsResponseTo, IsRun, IsRunWhole, IsTimed, StaysAll, admission_of, belonging_to, held_of, kept_of};
 
     // Answers a request. 400 where the bytes of its head are none (RFC 9110, section 15.5.1).
     fn respond(&mut self, asked: &Asked, response: &mut Response) -> Result<(), Stop>
@@ -90,12 +91,14 @@ impl<H: Ends + Drop, J: Keeps + Drop> Service<H, J> {
             (option_map string_bytes admitted.now.token) }
         requires kept { IsKeptFrom head.now admitted.now.head.items }
         ensures ran { OnOk result
-            (((status : ℕ) × H.refuses (held_of self.old).state head.now
+            (((status : ℕ) × H.refuses (admission_of self.old).rules
+            (held_of self.old).state head.now
             (request_in (admission_of self.old) admitted.now body.now) status
             × IsResponse status [] [] response.new × (held_of self.new ≡ held_of self.old))
-            ⊎ (((status : ℕ) → ¬ H.refuses (held_of self.old).state head.now
+            ⊎ (((status : ℕ) → ¬ H.refuses (admission_of self.old).rules
+            (held_of self.old).state head.now
             (request_in (admission_of self.old) admitted.now body.now) status)
-            × IsRun H.answers (held_of self.old)
+            × IsRunWhole H.answers (admission_of self.old) (held_of self.old)
             (request_in (admission_of self.old) admitted.now body.now) response.new
             (held_of self.new))) }
         ensures same { OnOk result (admission_of self.new ≡ admission_of self.old) }
@@ -103,12 +106,12 @@ impl<H: Ends + Drop, J: Keeps + Drop> Service<H, J> {
             (GoesOn H.answers J.is_clean J.kept (kept_of self.old) (kept_of self.new)) }
     {
         let request = request_in(self.admission.moment(), admitted, body);
-        match self.kept.handler().refusal(head, &request)? {
+        match self.kept.handler().refusal(self.admission.rules(), head, &request)? {
             Some(status) => {
                 response.status = status;
                 Ok(())
             }
-            None => self.run(admitted.only_reads, &request, response),
+            None => self.run_whole(admitted.only_reads, &request, response),
         }
     }
 
@@ -121,6 +124,64 @@ impl<H: Ends + Drop, J: Keeps + Drop> Service<H, J> {
             bytes: response.body.len(),
         };
         Ok(self.told.note(self.admission.moment(), user, head, reply)?)
+    }
+
+    // Runs a request that the server doesn't refuse, and sets the time of the file that it brought.
+    fn run_whole(
+        &mut self,
+        only_reads: bool,
+        request: &Request<'_>,
+        response: &mut Response,
+    ) -> Result<(), Stop>
+        requires blank { IsBlank response.old }
+        requires number { HasNumber (held_of self.old).tokens request.now.token }
+        ensures run { OnOk result (IsRunWhole H.answers (admission_of self.old)
+            (held_of self.old) request.now response.new (held_of self.new)) }
+        ensures same { OnOk result (admission_of self.new ≡ admission_of self.old) }
+        ensures goes_on { OnOk result
+            (GoesOn H.answers J.is_clean J.kept (kept_of self.old) (kept_of self.new)) }
+    {
+        self.run(only_reads, request, response)?;
+        self.set_time(request, response)
+    }
+
+    // Sets the time of the file that a request brought which was run, where it told one, and that has leave.
+    fn set_time(&mut self, request: &Request<'_>, response: &mut Response) -> Result<(), Stop>
+        ensures timed { OnOk result (IsTimed H.answers (admission_of self.old) (held_of self.old)
+            request.now response.old response.new (held_of self.new)) }
+        ensures same { OnOk result (admission_of self.new ≡ admission_of self.old) }
+        ensures goes_on { OnOk result
+            (GoesOn H.answers J.is_clean J.kept (kept_of self.old) (kept_of self.new)) }
+    {
+        let Some(set) = time_request(self.alloc, request.head, response.status.as_u16())? else {
+            return Ok(());
+        };
+        if !self.admission.has_leave(request.principal, &set.head)? {
+            return Ok(());
+        }
+        self.set_time_by(&set, request, response)
+    }
+
+    // Runs the request by which the time of a file is set that another one brought, and says so where it was.
+    fn set_time_by(
+        &mut self,
+        set: &TimeRequest,
+        request: &Request<'_>,
+        response: &mut Response,
+    ) -> Result<(), Stop>
+        ensures set { OnOk result ((sent : Sent)
+            × IsRun H.answers (held_of self.old)
+            (belonging_to request.now set.now.head.items set.now.body) sent (held_of self.new)
+            × IsAccepted sent.status response.old response.new) }
+        ensures same { OnOk result (admission_of self.new ≡ admission_of self.old) }
+        ensures goes_on { OnOk result
+            (GoesOn H.answers J.is_clean J.kept (kept_of self.old) (kept_of self.new)) }
+    {
+        let (moment, principal) = (request.moment, request.principal);
+        let own = request_of(moment, principal, None, &set.head, &set.body);
+        let mut sent = Response::new(self.alloc);
+        self.change(&own, &mut sent)?;
+        Ok(add_accepted(sent.status, response)?)
     }
 
     // Runs a request that the server doesn't refuse.
@@ -253,6 +314,17 @@ pub(crate) fn request_of<'r>(
         head,
         body,
     }
+}
+
+// Adds that a time is kept, where the request that set it was answered with this status.
+fn add_accepted(status: StatusCode, response: &mut Response) -> Result<(), AllocError>
+    ensures { OnOk result (IsAccepted status response.old response.new) }
+{
+    if status != StatusCode::MULTI_STATUS {
+        return Ok(());
+    }
+    let name = HeaderName::from_static("x-oc-mtime");
+    response.add_header(name, HeaderValue::from_static("accepted"))
 }
 
 // Shows what a record of a request can be that was answered with this status.

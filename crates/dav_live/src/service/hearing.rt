@@ -99,14 +99,15 @@ impl<H: Ends + Drop, J: Keeps + Drop> Service<H, J> {
         self.kept.keep_mark()
     }
 
-    // Takes the list of users anew, and tells who runs the server.
+    // Takes the list of users and the rules anew, and tells who runs the server.
     fn take_users(&mut self, bytes: &[u8]) -> Result<(), Stop>
         ensures { OnOk result (IsListed self.old bytes.now self.new) }
     {
         match self.admission.hear_users(bytes)? {
-            None => Ok(self.told.notice("users: read again")?),
+            None => Ok(self.told.notice("users and access: read again")?),
             Some(fault) => {
-                let notice = format!(in self.alloc; "users: {fault}; the users are as they were")?;
+                let notice =
+                    format!(in self.alloc; "{fault}; users and access are as they were")?;
                 Ok(self.told.notice(notice.as_str())?)
             }
         }

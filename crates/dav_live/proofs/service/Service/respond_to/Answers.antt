@@ -19,7 +19,7 @@ pub run_if_allowed-requires-clause-kept : goal.run_if_allowed-requires-clause-ke
 run_if_allowed-requires-clause-kept g c =
     let a = c.args.self.now.admission in
     let d = subst (IsDecision a c.tokens-tokens.result c.args.head.now c.args.asked.now.body) c.in-Run.is c.in_ok-refused.ensures.decision in
-    (a.lock_time, d.0.kept, d.0.is_kept, d.0.says)
+    (a.lock_time, a.strict, d.0.kept, d.0.is_kept, d.0.says)
 
 pub returns-in_ok-refuse-in-Refused-clause-responds : goal.returns-in_ok-refuse-in-Refused-clause-responds
 returns-in_ok-refuse-in-Refused-clause-responds g c =

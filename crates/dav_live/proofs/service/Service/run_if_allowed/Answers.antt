@@ -13,12 +13,12 @@ returns-in-Some-clause-goes_on g c = goes_on_same g.H.Handles.answers g.J.Keeps.
 
 pub returns-in-None-clause-ran : goal.returns-in-None-clause-ran
 returns-in-None-clause-ran g c =
-    not_refused g.H.Handles.answers g.H.Ends.refuses _ c.handler.result.now (held_of c.args.self.now) (held_of c.run.new.self) c.args.head.now c.request_in-request.result
-    (request_in (admission_of c.args.self.now) c.args.admitted.now c.args.body.now) c.run.new.response c.in_ok-status.field-0 c.run.result c.handler.ensures
-    (c.request_in-request.ensures (admission_of c.args.self.now) (sym c.moment.ensures.is)) c.in-None.is c.in_ok-status.ensures c.run.ensures.run
+    not_refused g.H.Handles.answers g.H.Ends.refuses _ c.handler.result.now (held_of c.args.self.now) (held_of c.run_whole.new.self) c.args.head.now c.request_in-request.result
+    (request_in (admission_of c.args.self.now) c.args.admitted.now c.args.body.now) c.run_whole.new.response c.in_ok-status.field-0 c.run_whole.result c.handler.ensures
+    (c.request_in-request.ensures (admission_of c.args.self.now) (sym c.moment.ensures.is)) c.in-None.is c.in_ok-status.ensures c.run_whole.ensures.run
 
-pub run-requires-clause-number : goal.run-requires-clause-number
-run-requires-clause-number g c =
+pub run_whole-requires-clause-number : goal.run_whole-requires-clause-number
+run_whole-requires-clause-number g c =
     subst (λ (v : RequestView). HasNumber c.args.self.now.kept.tokens v.token) (sym (c.request_in-request.ensures (admission_of c.args.self.now) (sym c.moment.ensures.is))) c.requires.number
 
 pub returns-in-Some-clause-ran : goal.returns-in-Some-clause-ran

@@ -1,0 +1,277 @@
+//! Which requests are let in, and have leave, and what is read of users and rules.
+use super::unescaped;
+use crate::admission::{Admission, Decision, Reason};
+use crate::lists::{Lists, ListsError};
+use crate::settings::Settings;
+use bytes::Bytes;
+use dav_http::Head;
+use dav_wire::Rejection;
+use std::alloc::Global;
+use std::test::Fail;
+
+// The passwords are `a` and `b`; the secrets are those that crypt(3) makes of them.
+const USERS: &str = "\
+anna:$5$rounds=1000$aa$cmob.H6VwkE8xIr8zdDIAFWpJIWmR7fuGoc.Dgzztq/
+ben:$5$rounds=1000$bb$/QpW6tSa28xZsm1Vzo/GoJMbh/4YYzZok938meuPUO7
+";
+
+const RULES: &str = "\
+read   /public  everybody
+read   /shared  users
+write  /anna    anna
+";
+
+/// Who is shown, in Base64, or `-`, and the lines of a head, between bars, below the prefix `/dav`: what becomes of it by users and rules,
+/// by rules alone that name everybody, and by users alone; `run` or a status, with the user.
+const REQUESTS: &str = "\
+# nobody is shown: 401 where nobody may
+- | GET /dav/public/a -> run, run, 401
+- | GET /dav/shared/a -> 401, 401, 401
+- | PUT /dav/public/a -> 401, 401, 401
+- | OPTIONS * -> run, run, 401
+# a user is shown: 403 where he may not, whatever is there
+YW5uYTph | GET /dav/public/a -> run anna, run, run anna
+YW5uYTph | GET /dav/shared/a -> run anna, 401, run anna
+YW5uYTph | PUT /dav/shared/a -> 403 anna, 401, run anna
+YW5uYTph | PUT /dav/anna/a -> run anna, 401, run anna
+YmVuOmI= | PUT /dav/anna/a -> 403 ben, 401, run ben
+YmVuOmI= | GET /dav -> 403 ben, 401, run ben
+# a wrong password, a stranger, and what is no name and password: 401, also for what everybody may read
+YW5uYTp4 | GET /dav/public/a -> 401 anna, run, 401 anna
+ZG9yYTph | GET /dav/public/a -> 401 dora, run, 401 dora
+YW5uYQ== | GET /dav/public/a -> 401, run, 401
+# leave is asked of the head that is run: of an If with a path, which is run with a whole URL (RFC 4918, section 10.4.2)
+YW5uYTph | PUT /dav/anna/a | If: </dav/shared/b> ([\"1\"]) -> run anna, 401, run anna
+YW5uYTph | PUT /dav/anna/a | If: </dav/ben/b> ([\"1\"]) -> 403 anna, 401, run anna
+YW5uYTph | GET /dav/public/a | If: <http://localhost/dav/ben/b> ([\"1\"]) -> 403 anna, 401, run anna
+YW5uYTph | LOCK /dav/anna/a | Timeout: Infinite -> run anna, 401, run anna
+YW5uYTph | LOCK /dav/shared/a | Timeout: Infinite -> 403 anna, 401, run anna
+YW5uYTph | PROPFIND /dav/shared -> run anna, 401, run anna
+# of Destination
+YW5uYTph | COPY /dav/shared/a | Destination: /dav/anna/b -> run anna, 401, run anna
+YW5uYTph | COPY /dav/shared/a | Destination: /dav/anna/%2e%2e/ben/b -> 403 anna, 401, run anna
+YW5uYTph | MOVE /dav/shared/a | Destination: /dav/anna/b -> 403 anna, 401, run anna
+# of the path that the machine reads
+YW5uYTph | GET /dav/anna/../ben/a -> 403 anna, 401, run anna
+YW5uYTph | GET //dav//shared/a -> run anna, 401, run anna
+# what isn't at or below the prefix, and a method that isn't served
+YW5uYTph | GET /other -> 404 anna, 404, 404 anna
+YW5uYTph | REPORT /dav/ben -> run anna, run, run anna
+# another host
+YW5uYTph | GET /dav/ben | Host: evil.example -> 421, 421, 421
+";
+
+/// The same, of requests with a long body, by users and rules: the status by which no byte of it is taken, and the user; or `-`.
+const LONG: &str = "\
+- | PUT /dav/public/a -> 401
+YW5uYTp4 | PUT /dav/anna/a -> 401 anna
+YW5uYTph | PUT /dav/anna/a -> -
+YW5uYTph | PUT /dav/shared/a -> 403 anna
+YW5uYTph | PUT /dav/anna/a | If: </dav/ben/b> ([\"1\"]) -> 403 anna
+YW5uYTph | PUT /other/a -> -
+";
+
+/// The lists of users and the rules, each line after `;`, and `-` where there is none: what is wrong with them, or `ok`.
+const LISTS: &str = "\
+-  | - -> ok
+USERS | - -> ok
+- | read /public everybody -> ok
+USERS | read / anna;write /ben ben -> ok
+USERS | # nothing -> ok
+USERS |  -> ok
+x | - -> users: line 1 isn't name:$5$.. as `openssl passwd -5` makes it, or its name can't be written in XML
+ | - -> users: there is no user in it
+x | y -> users: line 1 isn't name:$5$.. as `openssl passwd -5` makes it, or its name can't be written in XML
+USERS | read / anna;wirte /ben ben -> access: line 2: there is no right 'wirte'
+USERS | read -> access: line 1: there is no path in it
+USERS | ;;read /a/../../b anna -> access: line 3: its path can't be read: ForbiddenPath
+USERS | read / -> access: line 1: it names nobody
+USERS | read / beb -> access: line 1: there is no user 'beb'
+- | read / anna -> access: line 1: there is no user 'anna'
+- | read / users -> access: line 1: there is no user 'users'
+USERS | read / @staff -> access: line 1: there is no group '@staff'
+USERS | @a = anna;@a = ben -> access: line 2: the group '@a' is defined twice
+USERS | @a = dora -> access: line 1: there is no user 'dora'
+";
+
+// The users and rules that the rows speak of: all, the rules of everybody alone, and the users alone.
+fn admissions(alloc: Global) -> Result<[Admission; 3], Fail> {
+    let users = Some(USERS.as_bytes());
+    let rules = Some(RULES.as_bytes());
+    let public = Some("read /public everybody".as_bytes());
+    Ok([
+        admission(alloc, Lists::read(alloc, users, rules)?)?,
+        admission(alloc, Lists::read(alloc, None, public)?)?,
+        admission(alloc, Lists::read(alloc, users, None)?)?,
+    ])
+}
+
+// What goes by these users and rules, below `/dav`.
+fn admission(alloc: Global, lists: Lists) -> Result<Admission, Fail> {
+    let settings = Settings {
+        prefix: String::from_str(alloc, "/dav")?,
+        hosts: Vec::new(alloc),
+        lock_time: 500,
+        strict: false,
+        most_body: 1_000_000,
+        most_waiting: 1_000_000,
+        short_journal: 1_000_000,
+        logs: false,
+    };
+    Ok(Admission::new(alloc, settings, lists, 1_000_000_000))
+}
+
+// The head of a row, with these fields besides.
+fn head_in(alloc: Global, input: &str, more: &str) -> Result<Vec<u8>, Fail> {
+    let (shown, lines) = input.split_once(" | ").ok_or("a row without a head")?;
+    let mut head = String::new(alloc);
+    for (place, line) in lines.split(" | ").enumerate() {
+        head.push_str(line)?;
+        head.push_str(if place == 0 { " HTTP/1.1^" } else { "^" })?;
+    }
+    if shown != "-" {
+        head.push_str("Authorization: Basic ")?;
+        head.push_str(shown)?;
+        head.push('^')?;
+    }
+    head.push_str(more)?;
+    head.push('^')?;
+    Ok(unescaped(alloc, head.as_str())?)
+}
+
+// A word and a user, if there is one.
+fn said(alloc: Global, word: &str, user: &str) -> Result<String, Fail> {
+    let gap = if user.is_empty() { "" } else { " " };
+    Ok(format!(in alloc; "{word}{gap}{user}")?)
+}
+
+// What becomes of a request.
+fn decided(alloc: Global, admission: &mut Admission, head: &Head<'_>) -> Result<String, Fail> {
+    let Ok(decision) = admission.decide(head, &Bytes::from_static(b"x"), 0) else {
+        return Err("memory".into());
+    };
+    match decision {
+        Decision::Run(admitted) => said(alloc, "run", admitted.user()),
+        Decision::Refused(refused) => {
+            let status = match refused.reason {
+                Reason::Misdirected => "421",
+                Reason::Unauthorized => "401",
+                Reason::Forbidden => "403",
+                Reason::TooLong => "414",
+                Reason::Outside => "404",
+            };
+            said(alloc, status, refused.user.as_str())
+        }
+    }
+}
+
+#[test]
+fn requests_are_let_in(rt: HostRuntime) -> Result<(), Fail> {
+    let alloc = rt.alloc();
+    let [mut both, mut rules, mut users] = admissions(alloc)?;
+    for row in REQUESTS.lines() {
+        let Some((input, wanted)) = row.rsplit_once(" -> ") else {
+            continue;
+        };
+        let bytes = head_in(alloc, input, "")?;
+        let head = Head::read(&bytes).ok_or("no head")?;
+        let by_both = decided(alloc, &mut both, &head)?;
+        let by_rules = decided(alloc, &mut rules, &head)?;
+        let by_users = decided(alloc, &mut users, &head)?;
+        let found = format!(in alloc; "{by_both}, {by_rules}, {by_users}")?;
+        assert!(&rt; found.as_str() == wanted, "{row}\ngives: {found}");
+    }
+    Ok(())
+}
+
+// By which status a request isn't taken, and of whom it is.
+fn judged(alloc: Global, admission: &mut Admission, head: &Head<'_>) -> Result<String, Fail> {
+    let Ok(judgement) = admission.judge(head) else {
+        return Err("memory".into());
+    };
+    match judgement {
+        Some((Rejection::Unauthorized, user)) => said(alloc, "401", user.as_str()),
+        Some((Rejection::Forbidden, user)) => said(alloc, "403", user.as_str()),
+        Some(_) => said(alloc, "?", ""),
+        None => said(alloc, "-", ""),
+    }
+}
+
+#[test]
+fn long_bodies_need_leave(rt: HostRuntime) -> Result<(), Fail> {
+    let alloc = rt.alloc();
+    let [mut both, _, _] = admissions(alloc)?;
+    for row in LONG.lines() {
+        let Some((input, wanted)) = row.rsplit_once(" -> ") else {
+            continue;
+        };
+        let bytes = head_in(alloc, input, "Content-Length: 1000000^")?;
+        let head = Head::read(&bytes).ok_or("no head")?;
+        let found = judged(alloc, &mut both, &head)?;
+        assert!(&rt; found.as_str() == wanted, "{row}\ngives: {found}");
+    }
+    Ok(())
+}
+
+// A text of a row, if there is one.
+fn text_in(alloc: Global, text: &str) -> Result<Option<String>, Fail> {
+    match text.trim() {
+        "-" => Ok(None),
+        "USERS" => Ok(Some(String::from_str(alloc, USERS)?)),
+        lines => Ok(Some(lines.replace(alloc, ";", "\n")?)),
+    }
+}
+
+// What is wrong with users and rules, or `ok`.
+fn listed(alloc: Global, users: Option<&str>, access: Option<&str>) -> Result<String, Fail> {
+    let read = Lists::read(
+        alloc,
+        users.map(|text| text.as_bytes()),
+        access.map(|text| text.as_bytes()),
+    );
+    match read {
+        Ok(_) => Ok(String::from_str(alloc, "ok")?),
+        Err(error) => Ok(format!(in alloc; "{error}")?),
+    }
+}
+
+// The report of users and rules.
+fn report_of(alloc: Global, users: Option<&str>, access: Option<&str>) -> Result<Vec<u8>, Fail> {
+    let mut report = Vec::from_slice(alloc, users.unwrap_or("").as_bytes())?;
+    if let Some(access) = access {
+        report.push(0)?;
+        report.extend_from_slice(access.as_bytes())?;
+    }
+    Ok(report)
+}
+
+#[test]
+fn users_and_rules_are_read_together(rt: HostRuntime) -> Result<(), Fail> {
+    let alloc = rt.alloc();
+    let bytes = head_in(alloc, "YW5uYTph | PUT /dav/shared/a", "")?;
+    let head = Head::read(&bytes).ok_or("no head")?;
+    for row in LISTS.lines() {
+        let Some((input, wanted)) = row.rsplit_once(" -> ") else {
+            continue;
+        };
+        let (users, access) = input.split_once(" | ").ok_or("a row without rules")?;
+        let users = text_in(alloc, users)?;
+        let access = text_in(alloc, access)?;
+        let found = listed(alloc, users.as_deref(), access.as_deref())?;
+        assert!(&rt; found.as_str() == wanted, "{row}\ngives: {found}");
+        // The same where they are reported: at a fault both are as they were.
+        let [mut both, _, _] = admissions(alloc)?;
+        let report = report_of(alloc, users.as_deref(), access.as_deref())?;
+        let fault = match both.hear_users(&report) {
+            Ok(Some(ListsError::Memory)) | Err(_) => return Err("memory".into()),
+            Ok(fault) => fault,
+        };
+        let is_there = users.is_some() || access.is_some();
+        assert!(&rt; fault.is_some() == (wanted != "ok" || !is_there), "{row}, reported");
+        if fault.is_some() {
+            let then = decided(alloc, &mut both, &head)?;
+            assert!(&rt; then.as_str() == "403 anna", "{row}, then: {then}");
+        }
+    }
+    Ok(())
+}
