@@ -5,6 +5,8 @@ ghost use Rattle.dav_core.specs.declared.errors.DavError.TheVariants.{IllegalPat
 ghost use Rattle.dav_live.specs.Admission.{HasManySlashes, IsOutside, IsTokenFor, reason_for, refusal_fields, slashes_in, status_of};
 ghost use Rattle.dav_live.specs.declared.admission.RefusedRequest.{RefusedRequest as RefusedValue};
 
+mod login;
+
 use crate::clock::moment_after;
 use crate::hosts::is_for;
 use crate::lists::{Lists, ListsError, texts_in};

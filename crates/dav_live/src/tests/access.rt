@@ -267,7 +267,10 @@ fn users_and_rules_are_read_together(rt: HostRuntime) -> Result<(), Fail> {
             Ok(fault) => fault,
         };
         let is_there = users.is_some() || access.is_some();
-        assert!(&rt; fault.is_some() == (wanted != "ok" || !is_there), "{row}, reported");
+        assert!(&rt;
+            fault.is_some() == (wanted != "ok" || !is_there),
+            "{row}, reported"
+        );
         if fault.is_some() {
             let then = decided(alloc, &mut both, &head)?;
             assert!(&rt; then.as_str() == "403 anna", "{row}, then: {then}");
