@@ -45,25 +45,6 @@ impl Check {
         self.secret.as_str()
     }
 
-    // Whether the password that fitted last has this digest.
-    fn is_last(&self, digest: &[u8; 32]) -> bool
-        ensures { IsTrue result → HasFitting self.now digest.now }
-    {
-        match &self.last_fitting {
-            Some(last) => last.as_slice() == digest.as_slice(),
-            None => false,
-        }
-    }
-
-    /// Whether a password is known to have this secret by its digest alone, as the one that fitted
-    /// last. No password of more than 72 bytes is.
-    pub fn recalls(&self, password: &[u8]) -> bool
-        ensures short { IsTrue result → length password.now ≤ 72 }
-        ensures sound { IsTrue result → HasFitting self.now (sha256 password.now) }
-    {
-        password.len() <= MOST_PASSWORD && self.is_last(&Sha256::digest(password))
-    }
-
     /// Whether a password has this secret. One that fitted last is known by its digest alone; a
     /// password of more than 72 bytes isn't looked at.
     pub fn admits(&mut self, password: &[u8]) -> bool
@@ -76,7 +57,9 @@ impl Check {
             return false;
         }
         let digest = Sha256::digest(password);
-        if self.is_last(&digest) {
+        if let Some(last) = &self.last_fitting
+            && last.as_slice() == digest.as_slice()
+        {
             return true;
         }
         if !matches_secret(password, self.secret.as_str()) {

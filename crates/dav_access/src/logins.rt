@@ -1,7 +1,7 @@
-//! Logins that were wrong, and who has to wait for the check of a password.
-ghost use Rattle.std.specs.Prelude.{◌≡◌, ◌&&◌, ◌||◌, ◌++◌, ◌∷◌, [], OnOk, bytes_eq, count_by, nat_lt, take};
+//! Logins that were wrong or right, and who has to wait for the check of a password.
+ghost use Rattle.std.specs.Prelude.{◌≡◌, ◌&&◌, ◌||◌, ◌++◌, ◌∷◌, [], OnOk, bytes_eq, count_by, nat_lt, not, take};
 ghost use Rattle.std.specs.List.{filter};
-ghost use Rattle.dav_access.specs.Logins.{is_recent};
+ghost use Rattle.dav_access.specs.Logins.{is_recent, login_digest};
 
 use sha2::{Digest, Sha256};
 use std::alloc::{AllocError, Global};
@@ -10,7 +10,7 @@ use std::marker::Model;
 /// Past so many wrong logins of one name, or from one address, within a minute, further ones wait.
 const FEW: usize = 4;
 
-/// So many wrong logins are known; within a minute there are no more.
+/// So many wrong logins are known, and so many right ones; within a minute there are no more wrong ones.
 const MOST: usize = 1024;
 
 const MINUTE: u64 = 60;
@@ -24,11 +24,13 @@ pub struct WrongLogin {
     pub seconds: u64,
 }
 
-/// The logins that were wrong within the last minute, at most 1,024.
+/// The logins that were wrong within the last minute, and those that were right when they were tried
+/// last, at most 1,024 of each.
 #[derive(Drop)]
 pub struct Logins {
     address: Vec<u8>,
     wrong: Vec<WrongLogin>,
+    right: Vec<[u8; 32]>,
     is_busy: bool,
 }
 
@@ -40,6 +42,7 @@ impl Model for Logins {
     ghost view = { λ l. record {
       address = l.address.items;
       wrong = l.wrong.items;
+      right = l.right.items;
       is_busy = l.is_busy;
     } };
 }
@@ -113,17 +116,36 @@ fn forget(wrong: &mut Vec<WrongLogin>, now: u64)
     wrong.retain(|w| is_recent(w, now));
 }
 
+// Forgets that the login with this digest was right.
+fn forget_right(right: &mut Vec<[u8; 32]>, digest: &[u8; 32])
+    ensures { right.new.items ≡ filter (λ d. not (bytes_eq d digest.now)) right.old.items }
+{
+    right.retain(|d| d.as_slice() != digest.as_slice());
+}
+
+// The digest of a login.
+fn login_digest(name: &[u8], password: &[u8]) -> [u8; 32]
+    ensures { result ≡ login_digest name.now password.now }
+{
+    let mut hasher = Sha256::new();
+    hasher.update(name);
+    hasher.update(b":");
+    hasher.update(password);
+    hasher.finalize()
+}
+
 impl Logins {
     ghost use Rattle.std.specs.Prelude.{◌≡◌, OnOk, false};
-    ghost use Rattle.dav_access.specs.Logins.{after_wrong, are_many, no_logins, wait_of, wrong_login};
+    ghost use Rattle.dav_access.specs.Logins.{after_right, after_wrong, are_many, is_right, no_logins, wait_of, wrong_login};
 
-    /// None was wrong.
+    /// None was tried.
     pub fn new(alloc: Global) -> Logins
         ensures { result ≡ no_logins }
     {
         Logins {
             address: Vec::new(alloc),
             wrong: Vec::new(alloc),
+            right: Vec::new(alloc),
             is_busy: false,
         }
     }
@@ -136,19 +158,29 @@ impl Logins {
         self.address.extend_from_slice(address)
     }
 
-    /// For how many seconds a login of this name waits at this time, in seconds, before its password
-    /// is checked: 60 where five were wrong within the last minute of that name, or five from the
-    /// address that was heard last, or 1,024 in all; 1 where one was wrong in this turn; else 0.
-    pub fn wait_of(&self, name: &[u8], now: u64) -> u64
-        ensures { result ≡ wait_of self.now name.now now }
+    /// For how many seconds a login waits at this time, in seconds, before its password is checked: 0
+    /// where it was right when it was tried last; 60 where five were wrong within the last minute of
+    /// that name, or five from the address that was heard last, or 1,024 in all; 1 where one was wrong
+    /// in this turn; else 0.
+    pub fn wait_of(&self, name: &[u8], password: &[u8], now: u64) -> u64
+        ensures { result ≡ wait_of self.now name.now password.now now }
     {
-        if self.are_many(name, now) {
+        if self.is_right(&login_digest(name, password)) {
+            0
+        } else if self.are_many(name, now) {
             MINUTE
         } else if self.is_busy {
             1
         } else {
             0
         }
+    }
+
+    // Whether the login with this digest was right when it was tried last.
+    fn is_right(&self, digest: &[u8; 32]) -> bool
+        ensures { result ≡ is_right digest.now self.now }
+    {
+        self.right.iter().any(|d| d.as_slice() == digest.as_slice())
     }
 
     // Whether there were many wrong logins within the last minute.
@@ -173,14 +205,28 @@ impl Logins {
         }
     }
 
-    /// Notes that a login of this name was wrong, at this time, in seconds. What is older than a
-    /// minute is forgotten.
-    pub fn note(&mut self, name: &[u8], now: u64) -> Result<(), AllocError>
-        ensures { OnOk result (self.new ≡ after_wrong self.old name.now now) }
+    /// Notes that a login was wrong, at this time, in seconds. What is older than a minute is
+    /// forgotten.
+    pub fn note_wrong(&mut self, name: &[u8], password: &[u8], now: u64) -> Result<(), AllocError>
+        ensures { OnOk result (self.new ≡ after_wrong self.old name.now password.now now) }
     {
         let login = self.wrong_login(name, now);
         remember(&mut self.wrong, login, now)?;
+        forget_right(&mut self.right, &login_digest(name, password));
         self.is_busy = true;
+        Ok(())
+    }
+
+    /// Notes that a login was right.
+    pub fn note_right(&mut self, name: &[u8], password: &[u8]) -> Result<(), AllocError>
+        ensures { OnOk result (self.new ≡ after_right self.old name.now password.now) }
+    {
+        let digest = login_digest(name, password);
+        if self.is_right(&digest) {
+            return Ok(());
+        }
+        self.right.insert(0, digest)?;
+        self.right.truncate(MOST);
         Ok(())
     }
 

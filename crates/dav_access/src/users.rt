@@ -78,18 +78,6 @@ impl Users {
         }
     }
 
-    /// Whether the password is known to be that of the first user of this name without a check, by
-    /// the digest of the one that fitted last.
-    pub fn recalls(&self, name: &str, password: &[u8]) -> bool
-        ensures sound { IsTrue result → Admits self.now name.now password.now }
-        ensures named { IsTrue result → IsName name.now }
-    {
-        match self.place_of(name.as_bytes()) {
-            Some(place) => self.users[place].check.recalls(password),
-            None => false,
-        }
-    }
-
     /// The name of a user with this name.
     pub fn named(&self, name: &[u8]) -> Option<&Name>
         ensures { MatchOption result (list_any (λ u. bytes_eq u.0 name.now) self.now ≡ false)

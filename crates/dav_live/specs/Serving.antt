@@ -21,14 +21,14 @@ use Rattle.dav_live.specs.Lists.{IsFaulty, Reports}
 use Rattle.dav_live.specs.Runs.{Commits, GoesOn, Saves, StaysKept}
 use Rattle.dav_live.specs.declared.admission.Reason.{Reason}
 use Rattle.dav_live.specs.declared.lists.ListsError.{ListsError}
-use Rattle.dav_live.specs.Waiting.{HasToWait, IsAfterLogin, MayBeHeard, status_in, wait_fields}
+use Rattle.dav_live.specs.Waiting.{HasToWait, IsAfterLogin, IsAfterVerdict, MayBeHeard, wait_fields}
 use Rattle.dav_live.specs.declared.service.Service.{Service}
 
 -- what a service goes by
 abbrev pub admission_of : {H J : Type 0} → Service H J → AdmissionView
 admission_of s = s.admission
 
--- which logins it knows to be wrong
+-- what it knows of logins
 abbrev pub logins_of : {H J : Type 0} → Service H J → LoginsView
 logins_of s = s.logins
 
@@ -89,7 +89,7 @@ pub data IsResponseTo {S : Type 0} (answers : S → RequestView → Response →
   run : (r : Request) (q : RequestView) → IsHead asked.head r → IsRequestOf a old.tokens r asked.body q → ((status : ℕ) → ¬ refuses a.rules old.state r q status)
       → IsRunWhole answers a old q own new → IsResponseTo answers refuses a old asked own new
 
--- The response to a request, but for its date, what is held then, and which logins are known to be wrong: 429 to who has to wait (RFC 6585,
+-- The response to a request, but for its date, what is held then, and what is known of logins: 429 to who has to wait (RFC 6585,
 -- section 4), and else the response to it.
 pub data IsReplyTo {S : Type 0} (answers : S → RequestView → Response → S → Type 0) (refuses : Option Rules → S → Request → RequestView → ℕ → Type 0)
     (a : AdmissionView) (l : LoginsView) (old : Holding S) (asked : Asked) (own : Response) (new : Holding S) (after : LoginsView) : Type 0 where
@@ -121,11 +121,11 @@ pub record Serves {H J : Type 0} (answers : H → RequestView → Response → H
 abbrev pub StaysAll : {H J : Type 0} → Service H J → Service H J → Type 0
 StaysAll old new = (admission_of new ≡ admission_of old) × (kept_of new ≡ kept_of old)
 
--- A request isn't taken, by its head alone, or may go on: what the service goes by stays, and a login that was wrong is known. Who is told
+-- A request isn't taken, by its head alone, or may go on: what the service goes by stays, and a login that was wrong is noted. Who is told
 -- to come again after a minute has to wait.
 pub record IsJudged {H J : Type 0} (old : Service H J) (head : List ℕ) (verdict : Option Rejection) (new : Service H J) : Type 0 where
   pub same : StaysAll old new
-  pub login : IsAfterLogin (admission_of old) (logins_of old) head (status_in verdict) (logins_of new)
+  pub login : IsAfterVerdict (admission_of old) (logins_of old) head verdict (logins_of new)
   pub waits : verdict ≡ Some TooManyRequests
       → (r : Request) × (seconds : ℕ) × IsHead head r × HasToWait (admission_of old) (logins_of old) r seconds
 

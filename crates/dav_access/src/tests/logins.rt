@@ -4,8 +4,9 @@ use crate::Logins;
 use std::alloc::{AllocError, Global};
 use std::test::Fail;
 
-// Wrong logins, each `name@address` and its second, `.` the end of a turn and `N*` so many of as many
-// names and addresses; then who comes next, and for how many seconds that waits.
+// Wrong logins, each `name@address` and its second, `name+password` one that is right, `name-password`
+// one that is wrong, at second 0, `.` the end of a turn and `N*` so many wrong ones of as many names
+// and addresses; then who comes next, with the password `pw`, and for how many seconds that waits.
 const WAITS: &str = "\
 # none, one, and the next turn
  | anna@a 0 -> 0
@@ -31,6 +32,18 @@ anna@a 0, anna@a 10, anna@a 20, anna@a 30, anna@a 40, . | anna@a 60 -> 0
 anna@a 0, anna@a 10, anna@a 20, anna@a 30, anna@a 40, anna@a 60, . | anna@a 69 -> 60
 anna@a 0, anna@a 10, anna@a 20, anna@a 30, anna@a 40, anna@a 60, . | anna@a 70 -> 0
 anna@a 0, bert@b 100, anna@a 100, anna@a 100, anna@a 100, anna@a 100, . | anna@a 100 -> 0
+# who was let in isn't kept out by others, but with another password
+anna+pw, anna@a 0, anna@b 0, anna@c 0, anna@d 0, anna@e 0 | anna@z 0 -> 0
+anna+pw, 1024* 0 | anna@0 0 -> 0
+anna+pw, anna@a 0 | anna@a 0 -> 0
+anna+other, anna@a 0, anna@b 0, anna@c 0, anna@d 0, anna@e 0, . | anna@z 0 -> 60
+ann+apw, ann:a+pw, anna@a 0 | anna@a 0 -> 1
+bert+pw, anna@a 0, anna@b 0, anna@c 0, anna@d 0, anna@e 0, . | anna@z 0 -> 60
+anna+pw, anna@a 0, anna@b 0, anna@c 0, anna@d 0, anna-pw, . | anna@z 0 -> 60
+anna+pw, anna-pw, anna+pw, anna@a 0 | anna@a 0 -> 0
+anna+pw, anna+pw, anna-pw | anna@a 0 -> 1
+anna+pw, 1023+ , anna@a 0 | anna@a 0 -> 0
+anna+pw, 1024+ , anna@a 0 | anna@a 0 -> 1
 # 1,024 in all
 1023* 0, . | anna@a 0 -> 0
 1024* 0, . | anna@a 0 -> 60
@@ -43,13 +56,20 @@ anna@a 0, bert@b 100, anna@a 100, anna@a 100, anna@a 100, anna@a 100, . | anna@a
 fn note(alloc: Global, logins: &mut Logins, who: &str, now: u64) -> Result<(), AllocError> {
     if let Some((name, address)) = who.split_once('@') {
         logins.hear_address(address.as_bytes())?;
-        return logins.note(name.as_bytes(), now);
+        return logins.note_wrong(name.as_bytes(), b"no", now);
     }
-    let count = who.trim_end_matches('*').parse::<u64>().unwrap_or(0);
-    for number in 0..count {
+    let (count, is_right) = match who.split_once('+') {
+        Some((count, _)) => (count, true),
+        None => (who.trim_end_matches('*'), false),
+    };
+    for number in 0..count.parse::<u64>().unwrap_or(0) {
         let text = format!(in alloc; "{number}")?;
-        logins.hear_address(text.as_bytes())?;
-        logins.note(text.as_bytes(), now)?;
+        if is_right {
+            logins.note_right(text.as_bytes(), b"yes")?;
+        } else {
+            logins.hear_address(text.as_bytes())?;
+            logins.note_wrong(text.as_bytes(), b"no", now)?;
+        }
     }
     Ok(())
 }
@@ -61,6 +81,12 @@ fn waited(alloc: Global, input: &str) -> Result<u64, Fail> {
     for login in before.split(", ") {
         if login == "." {
             logins.end_turn();
+        } else if let Some((name, password)) = login.split_once('-') {
+            logins.note_wrong(name.as_bytes(), password.as_bytes(), 0)?;
+        } else if let Some((name, password)) = login.split_once('+')
+            && password != " "
+        {
+            logins.note_right(name.as_bytes(), password.as_bytes())?;
         } else if let Some((who, at)) = login.split_once(' ') {
             note(alloc, &mut logins, who, at.parse::<u64>().unwrap_or(0))?;
         }
@@ -68,7 +94,7 @@ fn waited(alloc: Global, input: &str) -> Result<u64, Fail> {
     let (who, at) = next.split_once(' ').ok_or("a login without a time")?;
     let (name, address) = who.split_once('@').ok_or("a login without an address")?;
     logins.hear_address(address.as_bytes())?;
-    Ok(logins.wait_of(name.as_bytes(), at.parse::<u64>().unwrap_or(0)))
+    Ok(logins.wait_of(name.as_bytes(), b"pw", at.parse::<u64>().unwrap_or(0)))
 }
 
 #[test]
@@ -82,6 +108,6 @@ fn wrong_logins_wait(rt: HostRuntime) -> Result<(), Fail> {
             count = count.saturating_add(1);
         }
     }
-    assert!(&rt; count == 25, "{count} rows");
+    assert!(&rt; count == 36, "{count} rows");
     Ok(())
 }

@@ -5,8 +5,7 @@ use dav_http::Head;
 use dav_wire::Stop;
 
 impl Admission {
-    ghost use Rattle.std.specs.Prelude.{◌≡◌, ℕ, List, Some, IfOk, IsTrue, MatchOption, string_bytes, unwrap_or};
-    ghost use Rattle.dav_access.specs.Users.{Admits};
+    ghost use Rattle.std.specs.Prelude.{◌≡◌, ℕ, List, IfOk, MatchOption, string_bytes};
     ghost use Rattle.dav_live.specs.Waiting.{ShowsLogin, seconds_of};
 
     /// The login that a request shows, where there is a list of users.
@@ -21,17 +20,6 @@ impl Admission {
         match head.value("authorization") {
             Some(value) => Ok(credentials_of(self.alloc, value)?),
             None => Ok(None),
-        }
-    }
-
-    /// Whether a login is known to be right without a check: its password fitted last.
-    pub fn recalls(&self, login: &Credentials) -> bool
-        ensures { IsTrue result → (users : List (List ℕ × List ℕ)) × (self.now.users ≡ Some users)
-            × Admits users (string_bytes login.now.name) (string_bytes login.now.password) }
-    {
-        match &self.users {
-            Some(users) => users.recalls(login.name.as_str(), login.password.as_bytes()),
-            None => false,
         }
     }
 

@@ -1,4 +1,4 @@
-//! A login is tried: who has to wait isn't heard, unless the password is known.
+//! A login is tried: who has to wait isn't heard.
 ghost use Rattle.std.specs.Prelude.{◌≡◌, ◌==◌, [], OnOk, codes, if◌then◌else◌};
 ghost use Rattle.http_header.specs.Value.{plain_value};
 ghost use Rattle.http_server.specs.Response.{IsBlank, IsResponse};
@@ -16,32 +16,25 @@ use http_header::{HeaderValue, RETRY_AFTER};
 use http_server::Response;
 
 impl<H: Ends + Drop, J: Keeps + Drop> Service<H, J> {
-    ghost use Rattle.std.specs.Prelude.{◌≡◌, ◌≢◌, ℕ, List, [], Some, IfOk, OnOk, string_bytes};
-    ghost use Rattle.http_server.specs.Response.{IsBlank, IsResponse};
-    ghost use Rattle.dav_access.specs.Logins.{after_wrong, wait_of};
-    ghost use Rattle.dav_access.specs.Users.{Admits};
+    ghost use Rattle.std.specs.Prelude.{◌≡◌, ◌≢◌, ℕ, List, Some, IfOk, OnOk, string_bytes};
+    ghost use Rattle.http_server.specs.Response.{IsBlank};
+    ghost use Rattle.dav_access.specs.Logins.{after_right, after_wrong, wait_of};
     ghost use Rattle.dav_server.specs.Head.{IsHead};
     ghost use Rattle.dav_live.specs.Runs.{GoesOn};
     ghost use Rattle.dav_live.specs.Serving.{IsJudged, IsReplyTo, StaysAll, admission_of, held_of, kept_of, logins_of};
-    ghost use Rattle.dav_live.specs.Waiting.{seconds_of, wait_fields};
+    ghost use Rattle.dav_live.specs.Waiting.{seconds_of};
 
-    // For how many seconds a login has to wait; one that is known to be right doesn't.
+    // For how many seconds a login has to wait.
     fn wait_for(&self, login: &Credentials) -> u64
-        ensures waits { result ≢ 0 → result ≡ wait_of (logins_of self.now)
-            (string_bytes login.now.name) (seconds_of (admission_of self.now)) }
-        ensures known { result ≡ 0 → wait_of (logins_of self.now) (string_bytes login.now.name)
-            (seconds_of (admission_of self.now)) ≢ 0
-            → (users : List (List ℕ × List ℕ)) × ((admission_of self.now).users ≡ Some users)
-            × Admits users (string_bytes login.now.name) (string_bytes login.now.password) }
+        ensures { result ≡ wait_of (logins_of self.now) (string_bytes login.now.name)
+            (string_bytes login.now.password) (seconds_of (admission_of self.now)) }
     {
-        if self.admission.recalls(login) {
-            return 0;
-        }
+        let (name, password) = (login.name.as_bytes(), login.password.as_bytes());
         self.logins
-            .wait_of(login.name.as_bytes(), self.admission.seconds())
+            .wait_of(name, password, self.admission.seconds())
     }
 
-    // Answers a request with this head, unless it has to wait (429; RFC 6585, section 4), and notes a login that was wrong.
+    // Answers a request with this head, unless it has to wait (429; RFC 6585, section 4), and notes whether its login was right.
     pub(super) fn respond_in_time(
         &mut self,
         head: &Head<'_>,
@@ -72,19 +65,37 @@ impl<H: Ends + Drop, J: Keeps + Drop> Service<H, J> {
         }
     }
 
-    // Notes that a login was wrong, where that is the status of its request.
+    // Notes that a login was wrong or right, by the status of its request.
     fn see_login(&mut self, login: &Credentials, status: u16) -> Result<(), Stop>
         ensures wrong { OnOk result (status ≡ 401 → logins_of self.new
             ≡ after_wrong (logins_of self.old) (string_bytes login.now.name)
-            (seconds_of (admission_of self.old))) }
-        ensures other { OnOk result (status ≢ 401 → logins_of self.new ≡ logins_of self.old) }
+            (string_bytes login.now.password) (seconds_of (admission_of self.old))) }
+        ensures right { OnOk result (status ≢ 401 → status ≢ 421 → logins_of self.new
+            ≡ after_right (logins_of self.old) (string_bytes login.now.name)
+            (string_bytes login.now.password)) }
+        ensures other { OnOk result (status ≡ 421 → logins_of self.new ≡ logins_of self.old) }
         ensures same { StaysAll self.old self.new }
     {
-        if status == 401 {
-            let now = self.admission.seconds();
-            self.logins.note(login.name.as_bytes(), now)?;
+        match status {
+            401 => self.see_wrong(login),
+            421 => Ok(()),
+            _ => {
+                let (name, password) = (login.name.as_bytes(), login.password.as_bytes());
+                Ok(self.logins.note_right(name, password)?)
+            }
         }
-        Ok(())
+    }
+
+    // Notes that a login was wrong.
+    fn see_wrong(&mut self, login: &Credentials) -> Result<(), Stop>
+        ensures wrong { OnOk result (logins_of self.new
+            ≡ after_wrong (logins_of self.old) (string_bytes login.now.name)
+            (string_bytes login.now.password) (seconds_of (admission_of self.old))) }
+        ensures same { StaysAll self.old self.new }
+    {
+        let now = self.admission.seconds();
+        let (name, password) = (login.name.as_bytes(), login.password.as_bytes());
+        Ok(self.logins.note_wrong(name, password, now)?)
     }
 
     // Judges a head that was read: who has to wait may not, and else as the server says.
@@ -98,7 +109,9 @@ impl<H: Ends + Drop, J: Keeps + Drop> Service<H, J> {
         match self.wait_for(&login) {
             0 => {
                 let verdict = self.judge_rest(head)?;
-                self.see_login(&login, verdict.map_or(0, |why| why.status()))?;
+                if verdict == Some(Rejection::Unauthorized) {
+                    self.see_wrong(&login)?;
+                }
                 Ok(verdict)
             }
             1 => self.reject(Rejection::Unavailable, login.name.as_str(), head),
