@@ -60,6 +60,7 @@ impl<H: Ends + Drop, J: Keeps + Drop> Service<H, J> {
           hosts = map string_bytes settings.hosts.items;
           lock_time = settings.lock_time;
           strict = settings.strict;
+          read_only = settings.read_only;
           users = lists.users;
           rules = lists.rules;
           moment = min (held_of s).latest last_moment;

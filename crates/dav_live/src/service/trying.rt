@@ -103,6 +103,9 @@ impl<H: Ends + Drop, J: Keeps + Drop> Service<H, J> {
         ensures { IfOk result (λ verdict. (bytes : List ℕ) → IsHead bytes head.now
             → IsJudged self.old bytes verdict self.new) }
     {
+        if self.admission.is_closed_to(head) {
+            return self.reject(Rejection::Forbidden, "", head);
+        }
         let Some(login) = self.admission.login_of(head)? else {
             return self.judge_rest(head);
         };
