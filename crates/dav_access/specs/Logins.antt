@@ -1,21 +1,20 @@
 -- Which logins were wrong, and which right, and how long the next one waits before its password is
 -- checked (RFC 6585, section 4).
-use Rattle.std.specs.Prelude.{◌&&◌, ◌||◌, not, ℕ, ◌-◌, nat_lt, Bool, true, false, List, [], ◌∷◌, ◌++◌, bytes_eq, count_by, take, if◌then◌else◌}
+use Rattle.std.specs.Prelude.{◌&&◌, ◌||◌, ◌==◌, not, ℕ, ◌-◌, nat_lt, Bool, List, [], ◌∷◌, ◌++◌, bytes_eq, count_by, take, if◌then◌else◌}
 use Rattle.std.specs.List.{filter, list_any}
 use Rattle.sha2.specs.Sha256.{sha256}
 use Rattle.dav_access.specs.declared.logins.WrongLogin.{WrongLogin}
 
--- Where the next login comes from, the logins that were wrong, the digests of those that were right,
--- and whether one was wrong in this turn.
+-- where the next login comes from, the logins that were wrong, and the digests of those that were
+-- right
 pub record LoginsView : Type 0 where
   pub address : List ℕ
   pub wrong : List WrongLogin
   pub right : List (List ℕ)
-  pub is_busy : Bool
 
 -- none was tried
 abbrev pub no_logins : LoginsView
-no_logins = record { address = []; wrong = []; right = []; is_busy = false }
+no_logins = record { address = []; wrong = []; right = [] }
 
 -- the digest of a login: of its text in Basic credentials (RFC 7617, section 2)
 abbrev pub login_digest : List ℕ → List ℕ → List ℕ
@@ -36,21 +35,23 @@ is_of now name w = is_recent now w && bytes_eq w.name (sha256 name)
 abbrev pub is_from : ℕ → List ℕ → WrongLogin → Bool
 is_from now address w = is_recent now w && bytes_eq w.address (sha256 address)
 
--- Of the last minute are five wrong logins of this name, or five from where the next one comes from,
--- or 1,024 in all.
+-- of the last minute are five wrong logins of this name, or five from where the next one comes from
 abbrev pub are_many : LoginsView → List ℕ → ℕ → Bool
 are_many l name now =
     nat_lt 4 (count_by (is_of now name) l.wrong)
-    || (nat_lt 4 (count_by (is_from now l.address) l.wrong)
-    || nat_lt 1023 (count_by (is_recent now) l.wrong))
+    || nat_lt 4 (count_by (is_from now l.address) l.wrong)
+
+-- of this second are eight wrong logins
+abbrev pub is_full : LoginsView → ℕ → Bool
+is_full l now = nat_lt 7 (count_by (λ w. w.seconds == now) l.wrong)
 
 -- For so many seconds a login waits before its password is checked: not at all where it was right
--- when it was tried last; a minute after many wrong ones; a second after one in this turn; and else
+-- when it was tried last; a minute after many wrong ones; a second where this one is full; and else
 -- not at all.
 abbrev pub wait_of : LoginsView → List ℕ → List ℕ → ℕ → ℕ
 wait_of l name password now =
     if is_right (login_digest name password) l then 0
-    else if are_many l name now then 60 else if l.is_busy then 1 else 0
+    else if are_many l name now then 60 else if is_full l now then 1 else 0
 
 -- a wrong login of this name, at this time
 abbrev pub wrong_login : LoginsView → List ℕ → ℕ → WrongLogin
@@ -62,7 +63,6 @@ abbrev pub after_wrong : LoginsView → List ℕ → List ℕ → ℕ → Logins
 after_wrong l name password now = record l {
   wrong = take 1024 (filter (is_recent now) l.wrong ++ wrong_login l name now ∷ []);
   right = filter (λ d. not (bytes_eq d (login_digest name password))) l.right;
-  is_busy = true;
 }
 
 -- after a right login: of those that were right the last 1,024 are known

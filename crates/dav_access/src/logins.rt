@@ -1,5 +1,5 @@
 //! Logins that were wrong or right, and who has to wait for the check of a password.
-ghost use Rattle.std.specs.Prelude.{◌≡◌, ◌&&◌, ◌||◌, ◌++◌, ◌∷◌, [], OnOk, bytes_eq, count_by, nat_lt, not, take};
+ghost use Rattle.std.specs.Prelude.{◌≡◌, ◌&&◌, ◌||◌, ◌==◌, ◌++◌, ◌∷◌, [], OnOk, bytes_eq, count_by, nat_lt, not, take};
 ghost use Rattle.std.specs.List.{filter};
 ghost use Rattle.dav_access.specs.Logins.{is_recent, login_digest};
 
@@ -9,6 +9,9 @@ use std::marker::Model;
 
 /// Past so many wrong logins of one name, or from one address, within a minute, further ones wait.
 const FEW: usize = 4;
+
+/// So many wrong logins may be within a second.
+const MOST_AT_ONCE: usize = 8;
 
 /// So many wrong logins are known, and so many right ones; within a minute there are no more wrong ones.
 const MOST: usize = 1024;
@@ -31,7 +34,6 @@ pub struct Logins {
     address: Vec<u8>,
     wrong: Vec<WrongLogin>,
     right: Vec<[u8; 32]>,
-    is_busy: bool,
 }
 
 impl Model for Logins {
@@ -43,7 +45,6 @@ impl Model for Logins {
       address = l.address.items;
       wrong = l.wrong.items;
       right = l.right.items;
-      is_busy = l.is_busy;
     } };
 }
 
@@ -68,14 +69,14 @@ fn is_from(login: &WrongLogin, address: &[u8; 32], now: u64) -> bool
     is_recent(login, now) && login.address.as_slice() == address.as_slice()
 }
 
-// How many wrong logins of the last minute there are.
-fn count_recent(wrong: &[WrongLogin], now: u64) -> usize
-    ensures { result ≡ count_by (is_recent now) wrong.now }
+// How many wrong logins there are of a second.
+fn count_at(wrong: &[WrongLogin], now: u64) -> usize
+    ensures { result ≡ count_by (λ w. w.seconds == now) wrong.now }
 {
-    wrong.iter().filter(|w| is_recent(w, now)).count()
+    wrong.iter().filter(|w| w.seconds == now).count()
 }
 
-// How many of them are of the name with this digest.
+// How many wrong logins of the last minute are of the name with this digest.
 fn count_of(wrong: &[WrongLogin], name: &[u8; 32], now: u64) -> usize
     ensures { result
         ≡ count_by (λ w. is_recent now w && bytes_eq w.name name.now) wrong.now }
@@ -83,7 +84,7 @@ fn count_of(wrong: &[WrongLogin], name: &[u8; 32], now: u64) -> usize
     wrong.iter().filter(|w| is_of(w, name, now)).count()
 }
 
-// How many of them came from the address with this digest.
+// How many of the last minute came from the address with this digest.
 fn count_from(wrong: &[WrongLogin], address: &[u8; 32], now: u64) -> usize
     ensures { result
         ≡ count_by (λ w. is_recent now w && bytes_eq w.address address.now) wrong.now }
@@ -91,11 +92,11 @@ fn count_from(wrong: &[WrongLogin], address: &[u8; 32], now: u64) -> usize
     wrong.iter().filter(|w| is_from(w, address, now)).count()
 }
 
-// Whether so many wrong logins of a name, from an address, and in all are many.
-fn are_many(of_name: usize, from_address: usize, all: usize) -> bool
-    ensures { result ≡ (nat_lt 4 of_name || (nat_lt 4 from_address || nat_lt 1023 all)) }
+// Whether so many wrong logins of a name, or from an address, are many.
+fn are_many(of_name: usize, from_address: usize) -> bool
+    ensures { result ≡ (nat_lt 4 of_name || nat_lt 4 from_address) }
 {
-    of_name > FEW || from_address > FEW || all >= MOST
+    of_name > FEW || from_address > FEW
 }
 
 // Forgets the wrong logins before the last minute, and adds one.
@@ -135,8 +136,8 @@ fn login_digest(name: &[u8], password: &[u8]) -> [u8; 32]
 }
 
 impl Logins {
-    ghost use Rattle.std.specs.Prelude.{◌≡◌, OnOk, false};
-    ghost use Rattle.dav_access.specs.Logins.{after_right, after_wrong, are_many, is_right, no_logins, wait_of, wrong_login};
+    ghost use Rattle.std.specs.Prelude.{◌≡◌, OnOk};
+    ghost use Rattle.dav_access.specs.Logins.{after_right, after_wrong, are_many, is_full, is_right, no_logins, wait_of, wrong_login};
 
     /// None was tried.
     pub fn new(alloc: Global) -> Logins
@@ -146,7 +147,6 @@ impl Logins {
             address: Vec::new(alloc),
             wrong: Vec::new(alloc),
             right: Vec::new(alloc),
-            is_busy: false,
         }
     }
 
@@ -160,8 +160,8 @@ impl Logins {
 
     /// For how many seconds a login waits at this time, in seconds, before its password is checked: 0
     /// where it was right when it was tried last; 60 where five were wrong within the last minute of
-    /// that name, or five from the address that was heard last, or 1,024 in all; 1 where one was wrong
-    /// in this turn; else 0.
+    /// that name, or five from the address that was heard last; 1 where eight were wrong within this
+    /// second; else 0.
     pub fn wait_of(&self, name: &[u8], password: &[u8], now: u64) -> u64
         ensures { result ≡ wait_of self.now name.now password.now now }
     {
@@ -169,7 +169,7 @@ impl Logins {
             0
         } else if self.are_many(name, now) {
             MINUTE
-        } else if self.is_busy {
+        } else if self.is_full(now) {
             1
         } else {
             0
@@ -183,6 +183,13 @@ impl Logins {
         self.right.iter().any(|d| d.as_slice() == digest.as_slice())
     }
 
+    // Whether there are no more wrong logins to be in a second.
+    fn is_full(&self, now: u64) -> bool
+        ensures { result ≡ is_full self.now now }
+    {
+        count_at(&self.wrong, now) >= MOST_AT_ONCE
+    }
+
     // Whether there were many wrong logins within the last minute.
     fn are_many(&self, name: &[u8], now: u64) -> bool
         ensures { result ≡ are_many self.now name.now now }
@@ -190,7 +197,6 @@ impl Logins {
         are_many(
             count_of(&self.wrong, &Sha256::digest(name), now),
             count_from(&self.wrong, &Sha256::digest(&self.address), now),
-            count_recent(&self.wrong, now),
         )
     }
 
@@ -213,7 +219,6 @@ impl Logins {
         let login = self.wrong_login(name, now);
         remember(&mut self.wrong, login, now)?;
         forget_right(&mut self.right, &login_digest(name, password));
-        self.is_busy = true;
         Ok(())
     }
 
@@ -228,12 +233,5 @@ impl Logins {
         self.right.insert(0, digest)?;
         self.right.truncate(MOST);
         Ok(())
-    }
-
-    /// The turn ends: the next one may check a password again.
-    pub fn end_turn(&mut self)
-        ensures { self.new ≡ record self.old { is_busy = false } }
-    {
-        self.is_busy = false;
     }
 }

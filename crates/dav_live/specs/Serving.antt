@@ -185,8 +185,8 @@ pub record IsMarked {H J : Type 0} (saved : H → List ℕ) (is_saveable : H →
   pub same : admission_of new ≡ admission_of old
   pub keeps : StaysKept is_clean kept (kept_of old) (kept_of new) ⊎ Saves saved is_saveable is_clean kept (kept_of old) (kept_of new)
 
--- all that was answered is kept, and the turn ends
+-- all that was answered is kept
 pub record IsCommitted {H J : Type 0} (is_clean : J → Type 0) (kept : J → List (List ℕ) → Type 0) (old new : Service H J) : Type 0 where
   pub same : admission_of new ≡ admission_of old
-  pub logins : logins_of new ≡ record (logins_of old) { is_busy = false }
+  pub logins : logins_of new ≡ logins_of old
   pub commits : Commits is_clean kept (kept_of old) (kept_of new)

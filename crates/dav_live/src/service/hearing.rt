@@ -174,7 +174,6 @@ impl<H: Ends + Drop, J: Keeps + Drop> Keeper for Service<H, J> {
     }
 
     fn commit(&mut self) -> Result<(), Stop> {
-        self.logins.end_turn();
         match self.kept.commit() {
             Ok(()) => Ok(()),
             Err(error) => Err(stop_of(error)),

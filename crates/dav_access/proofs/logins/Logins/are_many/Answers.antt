@@ -17,8 +17,6 @@ returns c =
     let from : c.count_from.result ≡ count_by (λ (w : WrongLogin). is_recent now w && bytes_eq w.address (sha256 l.address)) l.wrong =
     c.count_from.ensures ∙ ap (λ (vs : List WrongLogin). count_by (λ (w : WrongLogin). is_recent now w && bytes_eq w.address c.digest-2.result) vs) (c.deref-2.ensures.value ∙ wrong)
     ∙ ap (λ (d : List ℕ). count_by (λ (w : WrongLogin). is_recent now w && bytes_eq w.address d) l.wrong) (c.digest-2.ensures ∙ ap sha256 address) in
-    let all : c.count_recent.result ≡ count_by (is_recent now) l.wrong = c.count_recent.ensures ∙ ap (count_by (is_recent now)) (c.deref-3.ensures.value ∙ wrong) in
     c.are_many.ensures
-    ∙ ap (λ (n : ℕ). nat_lt 4 n || (nat_lt 4 c.count_from.result || nat_lt 1023 c.count_recent.result)) of_name
-    ∙ ap (λ (n : ℕ). nat_lt 4 (count_by (λ (w : WrongLogin). is_recent now w && bytes_eq w.name (sha256 c.args.name.now)) l.wrong) || (nat_lt 4 n || nat_lt 1023 c.count_recent.result)) from
-    ∙ ap (λ (n : ℕ). nat_lt 4 (count_by (λ (w : WrongLogin). is_recent now w && bytes_eq w.name (sha256 c.args.name.now)) l.wrong) || (nat_lt 4 (count_by (λ (w : WrongLogin). is_recent now w && bytes_eq w.address (sha256 l.address)) l.wrong) || nat_lt 1023 n)) all
+    ∙ ap (λ (n : ℕ). nat_lt 4 n || nat_lt 4 c.count_from.result) of_name
+    ∙ ap (λ (n : ℕ). nat_lt 4 (count_by (λ (w : WrongLogin). is_recent now w && bytes_eq w.name (sha256 c.args.name.now)) l.wrong) || nat_lt 4 n) from
