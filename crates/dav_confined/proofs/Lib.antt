@@ -1,6 +1,7 @@
 mod ConfinedPlans
 mod GrantedLemmas
 mod LeaveLemmas
+mod ReadingLemmas
 mod SeenGet
 mod SeenLemmas
 mod SeenPropfind

@@ -1,10 +1,11 @@
 //! What a head asks for is read in its bytes, as the machine reads it, and is looked up in the rules.
-ghost use Rattle.std.specs.Prelude.{◌≡◌, ◌↔◌, Ok, Result, IfOk, IsTrue, MatchOption, codes};
+ghost use Rattle.std.specs.Prelude.{◌≡◌, ◌≢◌, ◌↔◌, None, Ok, Result, IfOk, IsTrue, MatchOption, codes};
 ghost use Rattle.std.specs.Option.{option_copied};
 ghost use Rattle.std.specs.Result.{result_ok};
 ghost use Rattle.http_header.specs.HeaderMap.{get_all};
 ghost use Rattle.dav_core.specs.Path.{PathText};
 ghost use Rattle.dav_core.specs.declared.errors.DavError.{DavError as DavErrorValue};
+ghost use Rattle.dav_core.specs.declared.errors.DavError.TheVariants.{Memory};
 ghost use Rattle.dav_engine.specs.CopyMove.{DestinationNames};
 ghost use Rattle.dav_server.specs.Machine.{Exchange, Settings};
 ghost use Rattle.dav_server.specs.Target.{TargetNames};
@@ -23,6 +24,16 @@ use dav_server::method::method_of;
 use dav_server::target::path_of;
 use std::alloc::Global;
 
+// No path, where a target names none; `NoMemory` where memory ran out.
+fn never(error: DavError) -> Result<Option<DavPath>, NoMemory>
+    ensures { IfOk result (λ path. (path ≡ None) × (error ≢ Memory)) }
+{
+    match error {
+        DavError::Memory => Err(NoMemory),
+        _ => Ok(None),
+    }
+}
+
 // The path that a target names; none where it names none.
 pub(crate) fn target_in(
     alloc: Global,
@@ -36,8 +47,7 @@ pub(crate) fn target_in(
 {
     match path_of(alloc, method, target, prefix) {
         Ok(path) => Ok(Some(path)),
-        Err(DavError::Memory) => Err(NoMemory),
-        Err(_) => Ok(None),
+        Err(error) => never(error),
     }
 }
 

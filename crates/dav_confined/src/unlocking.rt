@@ -1,18 +1,13 @@
 //! Which locks an UNLOCK names, and whether its principal may end them (RFC 4918, section 9.11).
-ghost use Rattle.std.specs.Prelude.{◌≡◌, ◌↔◌, IfOk, IsTrue, MatchOption};
+ghost use Rattle.std.specs.Prelude.{◌≡◌, IfOk, codes, string_bytes};
 ghost use Rattle.std.specs.Bool.{Decides};
 ghost use Rattle.std.specs.List.{AllByRecursion};
 ghost use Rattle.std.specs.Option.{option_copied, option_map};
-ghost use Rattle.std.specs.Prelude.{string_bytes};
-ghost use Rattle.dav_core.specs.Locks.{Lock};
-ghost use Rattle.dav_core.specs.declared.method.DavMethod.TheVariants.{Unlock as UnlockMethod};
 ghost use Rattle.dav_engine.specs.Headers.{Decodes};
 ghost use Rattle.dav_engine.specs.LockToken.{SaysLockToken};
 ghost use Rattle.dav_server.specs.Machine.{Exchange, Settings};
-ghost use Rattle.dav_server.specs.Method.{GivesServed};
-ghost use Rattle.dav_confined.specs.ConfinedSteps.{UnlocksLock};
 ghost use Rattle.dav_confined.specs.Leave.{MayUnlock};
-ghost use Rattle.dav_confined.specs.Unlocking.{MayEndNamed, Names};
+ghost use Rattle.dav_confined.specs.Unlocking.{MayEndNamed};
 
 use crate::leave::may_end;
 use crate::reading::target_in;
@@ -23,7 +18,6 @@ use dav_core::ls::DavLock;
 use dav_core::method::DavMethod;
 use dav_engine::lock_token::{lock_token, token_in};
 use dav_server::head::{headers_of, read_head};
-use dav_server::method::method_of;
 use dav_store::memls::MemLs;
 use http_header::HeaderMap;
 use std::alloc::Global;
@@ -59,9 +53,9 @@ fn token_of(alloc: Global, headers: &HeaderMap) -> Result<Option<String>, NoMemo
 
 // Whether a method is UNLOCK.
 fn is_unlock(method: &[u8]) -> bool
-    ensures { Decides result (GivesServed method.now (Ok UnlockMethod)) }
+    ensures { Decides result (method.now ≡ codes "UNLOCK") }
 {
-    matches!(method_of(method), Ok(DavMethod::Unlock))
+    method == b"UNLOCK".as_slice()
 }
 
 impl Unlock {

@@ -13,3 +13,4 @@ pub mod PresentedParts
 pub mod Refused
 pub mod Saved
 pub mod Room
+pub mod Uploaded

@@ -1,18 +1,24 @@
 -- What the answer of a machine is, by its parts.
-use Rattle.std.proofs.Common.{◌≡◌, ◌⊎◌, inl, inr, ℕ, List, Option, Some, None, ap, refl, subst, sym, ◌∙◌}
+use Rattle.std.proofs.Common.{true, false, not, true≢false, codes, ◌≢◌, ◌≡◌, ◌⊎◌, inl, inr, ℕ, List, Option, Some, None, ap, refl, subst, sym, ◌∙◌}
+use Rattle.std.specs.Bool.{Decides}
 use Rattle.http_server.specs.declared.response.Response.{Response}
 use Rattle.dav_core.specs.declared.method.DavMethod.TheVariants.{Get, Head}
+use Rattle.dav_core.specs.Locks.{Lock}
+use Rattle.dav_engine.specs.declared.request.Body.TheVariants as body
 use Rattle.dav_engine.specs.Reply.{Reply}
 use Rattle.dav_server.specs.Head.{IsHead, Request}
+use Rattle.dav_server.specs.Machine.{Exchange}
 use Rattle.dav_server.specs.Server.{Server}
 use Rattle.dav_server.proofs.HeadLemmas.{one_head}
 use Rattle.dav_http.specs.Leaves.{Leaves, reading}
 use Rattle.dav_http.specs.Steps.{IsStepFor}
+use Rattle.dav_access.specs.Rules.{Rules}
+use Rattle.dav_confined.specs.Leave.{MayUnlock}
 use Rattle.dav_kept.specs.Records.{RequestView}
 use Rattle.dav_http.specs.Kept.{IsKeptOf, depthless, lock, other}
 use Rattle.dav_http.specs.Refused.{MayBeRefused, Refuses, Tells}
 use Rattle.dav_http.proofs.RefusedLemmas.{may_be_refused, said_of}
-use Rattle.dav_live.specs.Answers.{AsksToSee, IsAnswer, IsForeignUnlock, IsKeptFrom, IsNotRun, IsSentFor, caller_of, foreign, refused, replied, shown}
+use Rattle.dav_live.specs.Answers.{AsksToSee, IsAnswer, IsBarred, IsForeignUnlock, IsKeptFrom, IsNotRun, IsSentFor, MayUnlockIn, barred, caller_of, refused, replied, shown}
 
 -- a GET or HEAD leaves the server
 seeing_leaves : (head : List ℕ) (status : ℕ) → AsksToSee head → Leaves head status
@@ -36,17 +42,17 @@ module _ (old mid : Server) (q : RequestView) (head : List ℕ) (same : head ≡
 
 -- ---- what isn't run
 
-module _ (s : Server) (came : Request) (q : RequestView) (own : (user : List ℕ) → q.principal ≡ Some user → ¬ IsForeignUnlock s.state.locks came user) where
-  pub not_run_by : (kept : Request) → IsHead q.head kept → (status : Option ℕ) → Tells (Refuses s kept q.body) status → Tells (IsNotRun s came q) status
+module _ (rules : Option Rules) (s : Server) (came : Request) (q : RequestView) (own : ¬ IsBarred rules s came q) where
+  pub not_run_by : (kept : Request) → IsHead q.head kept → (status : Option ℕ) → Tells (Refuses s kept q.body) status → Tells (IsNotRun rules s came q) status
   not_run_by kept is (Some n) refuses = refused kept own is refuses
   not_run_by kept is None none = by
     where
-      by : (n : ℕ) → ¬ IsNotRun s came q n
-      by _ (foreign user named unlock) = own user named unlock
+      by : (n : ℕ) → ¬ IsNotRun rules s came q n
+      by _ (barred bars) = own bars
       by n (refused another mine also refuses) = none n (subst (λ (k : Request). Refuses s k q.body n) (one_head q.head another kept also is) refuses)
 
-  pub not_run_headless : ((r : Request) → ¬ IsHead q.head r) → (n : ℕ) → ¬ IsNotRun s came q n
-  not_run_headless none _ (foreign user named unlock) = own user named unlock
+  pub not_run_headless : ((r : Request) → ¬ IsHead q.head r) → (n : ℕ) → ¬ IsNotRun rules s came q n
+  not_run_headless none _ (barred bars) = own bars
   not_run_headless none n (refused kept mine is refuses) = none kept is
 
 -- what is kept of a request has its method
@@ -56,17 +62,50 @@ kept_method most strict came _ (depthless is) = refl
 kept_method most strict came _ (lock is times decodes) = refl
 
 -- a request whose method is none that may be refused is run
-pub not_run_of : (s : Server) (came : Request) (q : RequestView) → IsKeptFrom came q.head → ¬ MayBeRefused came.method
-    → ((user : List ℕ) → q.principal ≡ Some user → ¬ IsForeignUnlock s.state.locks came user) → (n : ℕ) → ¬ IsNotRun s came q n
-not_run_of s came q from never own _ (foreign user named unlock) = own user named unlock
-not_run_of s came q (most, strict, kept, is_kept, says) never own n (refused mine is_mine is refuses) =
+pub not_run_of : (rules : Option Rules) (s : Server) (came : Request) (q : RequestView) → IsKeptFrom came q.head → ¬ MayBeRefused came.method
+    → ¬ IsBarred rules s came q → (n : ℕ) → ¬ IsNotRun rules s came q n
+not_run_of rules s came q from never own _ (barred bars) = own bars
+not_run_of rules s came q (most, strict, kept, is_kept, says) never own n (refused mine is_mine is refuses) =
     never (subst MayBeRefused (ap (λ (r : Request). r.method) (said_of q.head mine kept is says) ∙ kept_method most strict came kept is_kept) (may_be_refused s mine q.body n refuses))
 
 -- the same, by what was asked of the machine and the request
-pub not_run_from : {at s : Server} {asked q : RequestView} (came kept : Request) (body : List ℕ) → at ≡ s → asked ≡ q
-    → ((user : List ℕ) → q.principal ≡ Some user → ¬ IsForeignUnlock s.state.locks came user) → IsHead asked.head kept → body ≡ asked.body
-    → (status : Option ℕ) → Tells (Refuses at kept body) status → Tells (IsNotRun s came q) status
-not_run_from {at} {s} {asked} {q} came kept body same alike own is content status refuses =
-    not_run_by s came q own kept (subst (λ (v : RequestView). IsHead v.head kept) alike is) status
+pub not_run_from : {at s : Server} {asked q : RequestView} (rules : Option Rules) (came kept : Request) (body : List ℕ) → at ≡ s → asked ≡ q
+    → ¬ IsBarred rules s came q → IsHead asked.head kept → body ≡ asked.body
+    → (status : Option ℕ) → Tells (Refuses at kept body) status → Tells (IsNotRun rules s came q) status
+not_run_from {at} {s} {asked} {q} rules came kept body same alike own is content status refuses =
+    not_run_by rules s came q own kept (subst (λ (v : RequestView). IsHead v.head kept) alike is) status
     (subst (λ (v : RequestView). Tells (Refuses s kept v.body) status) alike
     (subst (λ (b : List ℕ). Tells (Refuses s kept b) status) content (subst (λ (x : Server). Tells (Refuses x kept body) status) same refuses)))
+
+-- ---- UNLOCK by rules
+
+-- the request of the machine with this head, of this principal
+exchange_with : List ℕ → Option (List ℕ) → Exchange
+exchange_with head who = record { head = head; body = body.None; principal = who; moment = 0; token = None }
+
+module _ (rules : Rules) (s : Server) (q : RequestView) where
+  -- without a list of locks none is named
+  pub may_without_list : s.state.locks ≡ None → Decides true (MayUnlockIn rules s q)
+  may_without_list none = (λ yes x ls head who is. absurd (let e : None ≡ Some ls = sym none ∙ is in cc), λ may. refl)
+
+  -- what is said of the list is said of the server
+  pub may_by_list : (ls : List Lock) (b : Bool) → s.state.locks ≡ Some ls
+      → ((x : Exchange) → x.head ≡ q.head → x.principal ≡ q.principal → Decides b (MayUnlock rules s.settings x ls)) → Decides b (MayUnlockIn rules s q)
+  may_by_list ls b is says = (
+    λ yes x ks head who also. subst (MayUnlock rules s.settings x) (let e : Some ls ≡ Some ks = sym is ∙ also in cc) ((says x head who).0 yes),
+    λ may. (says (exchange_with q.head q.principal) refl refl).1 (may (exchange_with q.head q.principal) ls refl refl is),
+  )
+
+  -- a request that is an UNLOCK is barred where that may not be
+  pub barred_unless : (came : Request) (may : Bool) → came.method ≡ codes "UNLOCK" → Decides may (MayUnlockIn rules s q) → Decides (not may) (IsBarred (Some rules) s came q)
+  barred_unless came true unlock says = (λ no. absurd (true≢false (sym no)), λ bars. absurd (bars.1 (says.0 refl)))
+  barred_unless came false unlock says = (λ yes. (unlock, λ may. true≢false (sym (says.1 may))), λ bars. refl)
+
+  -- and no other one is
+  pub never_barred : (came : Request) → came.method ≢ codes "UNLOCK" → Decides false (IsBarred (Some rules) s came q)
+  never_barred came other = (λ no. absurd (true≢false (sym no)), λ bars. absurd (other bars.0))
+
+-- without rules it is a lock of another
+pub barred_by_another : (s : Server) (came : Request) (q : RequestView) (b : Bool) (who : Option (List ℕ)) → who ≡ q.principal
+    → Decides b ((name : List ℕ) × (who ≡ Some name) × IsForeignUnlock s.state.locks came name) → Decides b (IsBarred None s came q)
+barred_by_another s came q b who same says = subst (λ (o : Option (List ℕ)). Decides b ((name : List ℕ) × (o ≡ Some name) × IsForeignUnlock s.state.locks came name)) same says

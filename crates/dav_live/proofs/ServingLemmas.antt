@@ -9,14 +9,15 @@ use Rattle.dav_kept.specs.declared.handler.Effect.TheVariants.{Left}
 use Rattle.http_server.specs.Response.{IsResponse}
 use Rattle.dav_server.specs.Head.{IsHead, Request}
 use Rattle.dav_wire.specs.declared.answer.Asked.{Asked}
-use Rattle.dav_live.specs.Admission.{AdmissionView, IsRequestOf, IsTokenFor, after_clocks, next, none, request_in}
+use Rattle.dav_access.specs.Rules.{Rules}
+use Rattle.dav_live.specs.Admission.{AdmissionView, HasLeaveIn, IsRequestOf, IsTokenFor, after_clocks, next, none, request_in}
 use Rattle.dav_live.specs.declared.admission.Admitted.{Admitted}
 use Rattle.dav_live.specs.Numbered.{HasNumber}
 use Rattle.dav_live.specs.Runs.{GoesOn}
 use Rattle.dav_http.specs.Refused.{Tells}
 use Rattle.dav_http.specs.Uploaded.{BringsTime, time_body, time_head}
 use Rattle.dav_http.specs.declared.uploaded.TimeRequest.{TimeRequest}
-use Rattle.dav_live.specs.Serving.{EndsLocks, IsAccepted, IsEnded, IsPassed, IsResponseTo, IsRun, IsRunWhole, IsTimed, StaysAll, admission_of, belonging_to, run, answered, held_of, kept_of, one, own_request, not_run, told, untold}
+use Rattle.dav_live.specs.Serving.{EndsLocks, IsAccepted, IsEnded, IsPassed, IsResponseTo, IsRun, IsRunWhole, IsTimed, StaysAll, admission_of, belonging_to, run, answered, held_of, kept_of, one, own_request, not_run, told, untold, without_leave}
 use Rattle.dav_live.specs.declared.service.Service.{Service}
 
 module _ {S : Type 0} (answers : S → RequestView → Response → S → Type 0) where
@@ -86,31 +87,33 @@ passed_later answers is_clean kept ends (Err e) old noted new seconds date a sta
 
 -- ---- a request that was admitted
 
-pub ran_or_not : {S : Type 0} (answers : S → RequestView → Response → S → Type 0) (refuses : S → Request → RequestView → ℕ → Type 0) (a b : AdmissionView) (old new noted : Holding S)
+pub ran_or_not : {S : Type 0} (answers : S → RequestView → Response → S → Type 0) (refuses : Option Rules → S → Request → RequestView → ℕ → Type 0) (a b : AdmissionView) (old new noted : Holding S)
     (asked : Asked) (r : Request) (admitted : Admitted) (own : Response) → IsHead asked.head r → IsRequestOf a old.tokens r asked.body (request_in a admitted asked.body) → b ≡ a → noted ≡ new
-    → ((status : ℕ) × refuses old.state r (request_in b admitted asked.body) status × IsResponse status [] [] own × (new ≡ old))
-    ⊎ (((status : ℕ) → ¬ refuses old.state r (request_in b admitted asked.body) status) × IsRunWhole answers old (request_in b admitted asked.body) own new)
+    → ((status : ℕ) × refuses b.rules old.state r (request_in b admitted asked.body) status × IsResponse status [] [] own × (new ≡ old))
+    ⊎ (((status : ℕ) → ¬ refuses b.rules old.state r (request_in b admitted asked.body) status) × IsRunWhole answers b old (request_in b admitted asked.body) own new)
     → IsResponseTo answers refuses a old asked own noted
 ran_or_not answers refuses a b old new noted asked r admitted own is request same noted-is (inl (status, refused, answer, left)) =
-    not_run r (request_in a admitted asked.body) status is request (subst (λ (x : AdmissionView). refuses old.state r (request_in x admitted asked.body) status) same refused) answer (noted-is ∙ left)
+    not_run r (request_in a admitted asked.body) status is request (subst (λ (x : AdmissionView). refuses x.rules old.state r (request_in x admitted asked.body) status) same refused) answer (noted-is ∙ left)
 ran_or_not {S} answers refuses a b old new noted asked r admitted own is request same noted-is (inr (may, ran)) =
-    run r (request_in a admitted asked.body) is request (subst (λ (x : AdmissionView). (status : ℕ) → ¬ refuses old.state r (request_in x admitted asked.body) status) same may)
-    (subst (λ (h : Holding S). IsRunWhole answers old (request_in a admitted asked.body) own h) (sym noted-is)
-    (subst (λ (x : AdmissionView). IsRunWhole answers old (request_in x admitted asked.body) own new) same ran))
+    run r (request_in a admitted asked.body) is request (subst (λ (x : AdmissionView). (status : ℕ) → ¬ refuses x.rules old.state r (request_in x admitted asked.body) status) same may)
+    (subst (λ (h : Holding S). IsRunWhole answers a old (request_in a admitted asked.body) own h) (sym noted-is)
+    (subst (λ (x : AdmissionView). IsRunWhole answers x old (request_in x admitted asked.body) own new) same ran))
 
-pub not_refused : {S E : Type 0} (answers : S → RequestView → Response → S → Type 0) (refuses : S → Request → RequestView → ℕ → Type 0) (P : Type 0) (state : S) (old new : Holding S)
-    (came : Request) (q r : RequestView) (own : Response) (status : Option ℕ) (result : Result (Unit {0}) E) → state ≡ old.state → q ≡ r → status ≡ None
-    → Tells (refuses state came q) status → OnOk result (IsRunWhole answers old q own new)
-    → OnOk result (P ⊎ (((n : ℕ) → ¬ refuses old.state came r n) × IsRunWhole answers old r own new))
-not_refused {S} answers refuses P state old new came q r own status result at same nothing tells ran =
-    let never : Tells (refuses old.state came r) None =
-    subst (λ (s : S). Tells (refuses s came r) None) at (subst (λ (v : RequestView). Tells (refuses state came v) None) same (subst (Tells (refuses state came q)) nothing tells)) in
-    on_ok result (λ done. inr (never, subst (λ (v : RequestView). IsRunWhole answers old v own new) same done)) ran
+pub not_refused : {S E : Type 0} (answers : S → RequestView → Response → S → Type 0) (refuses : Option Rules → S → Request → RequestView → ℕ → Type 0) (P : Type 0) (lent : Option Rules) (a : AdmissionView)
+    (state : S) (old new : Holding S) (came : Request) (q r : RequestView) (own : Response) (status : Option ℕ) (result : Result (Unit {0}) E) → lent ≡ a.rules → state ≡ old.state → q ≡ r → status ≡ None
+    → Tells (refuses lent state came q) status → OnOk result (IsRunWhole answers a old q own new)
+    → OnOk result (P ⊎ (((n : ℕ) → ¬ refuses a.rules old.state came r n) × IsRunWhole answers a old r own new))
+not_refused {S} answers refuses P lent a state old new came q r own status result rules at same nothing tells ran =
+    let never : Tells (refuses a.rules old.state came r) None =
+    subst (λ (o : Option Rules). Tells (refuses o old.state came r) None) rules
+    (subst (λ (s : S). Tells (refuses lent s came r) None) at (subst (λ (v : RequestView). Tells (refuses lent state came v) None) same (subst (Tells (refuses lent state came q)) nothing tells))) in
+    on_ok result (λ done. inr (never, subst (λ (v : RequestView). IsRunWhole answers a old v own new) same done)) ran
 
-pub refused_by : {S : Type 0} (refuses : S → Request → RequestView → ℕ → Type 0) (state was : S) (came : Request) (q r : RequestView) (status : Option ℕ) (n : ℕ) → state ≡ was → q ≡ r
-    → status ≡ Some n → Tells (refuses state came q) status → refuses was came r n
-refused_by {S} refuses state was came q r status n at same some tells =
-    subst (λ (s : S). refuses s came r n) at (subst (λ (v : RequestView). refuses state came v n) same (subst (Tells (refuses state came q)) some tells))
+pub refused_by : {S : Type 0} (refuses : Option Rules → S → Request → RequestView → ℕ → Type 0) (lent rules : Option Rules) (state was : S) (came : Request) (q r : RequestView) (status : Option ℕ) (n : ℕ)
+    → lent ≡ rules → state ≡ was → q ≡ r → status ≡ Some n → Tells (refuses lent state came q) status → refuses rules was came r n
+refused_by {S} refuses lent rules state was came q r status n of at same some tells =
+    subst (λ (o : Option Rules). refuses o was came r n) of
+    (subst (λ (s : S). refuses lent s came r n) at (subst (λ (v : RequestView). refuses lent state came v n) same (subst (Tells (refuses lent state came q)) some tells)))
 
 -- ---- the time of a file that was put
 
@@ -120,17 +123,23 @@ TellsRequest head status found =
     MatchOption found ((r : Request) (time : ℕ) → IsHead head r → ¬ BringsTime r status time)
     (λ t. (r : Request) × (time : ℕ) × IsHead head r × BringsTime r status time × (t.head.items ≡ time_head r) × (t.body ≡ time_body time))
 
-pub untold_time : {S : Type 0} (answers : S → RequestView → Response → S → Type 0) (old : Holding S) (q : RequestView) (own : Response) (status : ℕ) (found : Option TimeRequest)
-    → status ≡ own.status → found ≡ None → TellsRequest q.head status found → IsTimed answers old q own own old
-untold_time answers old q own status found same nothing tells =
-    untold (subst (λ (n : ℕ). (r : Request) (time : ℕ) → IsHead q.head r → ¬ BringsTime r n time) same (subst (TellsRequest q.head status) nothing tells)) refl refl
+module _ {S : Type 0} (answers : S → RequestView → Response → S → Type 0) (a : AdmissionView) (old : Holding S) (q : RequestView) (own : Response) (status : ℕ) (found : Option TimeRequest) (same : status ≡ own.status)
+    (tells : TellsRequest q.head status found) where
+  pub untold_time : found ≡ None → IsTimed answers a old q own own old
+  untold_time nothing = untold (subst (λ (n : ℕ). (r : Request) (time : ℕ) → IsHead q.head r → ¬ BringsTime r n time) same (subst (TellsRequest q.head status) nothing tells)) refl refl
 
-pub told_time : {S : Type 0} (answers : S → RequestView → Response → S → Type 0) (old new : Holding S) (q : RequestView) (own said : Response) (status : ℕ) (found : Option TimeRequest) (t : TimeRequest)
-    → status ≡ own.status → found ≡ Some t → TellsRequest q.head status found
-    → (sent : Response) × IsRun answers old (belonging_to q t.head.items t.body) sent new × IsAccepted sent.status own said
-    → IsTimed answers old q own said new
-told_time answers old new q own said status found t same some tells (sent, ran, accepted) =
-    let (r, time, is, brings, head, body) = subst (TellsRequest q.head status) some tells in
-    told r time sent is (subst (λ (n : ℕ). BringsTime r n time) same brings)
-    (subst (λ (bytes : List ℕ). IsRun answers old (belonging_to q (time_head r) bytes) sent new) body
-    (subst (λ (bytes : List ℕ). IsRun answers old (belonging_to q bytes t.body) sent new) head ran)) accepted
+  module _ (t : TimeRequest) (some : found ≡ Some t) where
+    -- the request by which the time is set has no leave
+    pub left_time : ¬ HasLeaveIn a q.principal t.head.items → IsTimed answers a old q own own old
+    left_time lacks =
+        let (r, time, is, brings, head, body) = subst (TellsRequest q.head status) some tells in
+        without_leave r time is (subst (λ (n : ℕ). BringsTime r n time) same brings) (λ leave. lacks (subst (HasLeaveIn a q.principal) (sym head) leave)) refl refl
+
+    -- it has, and was run
+    pub told_time : (new : Holding S) (said : Response) → HasLeaveIn a q.principal t.head.items → (sent : Response) × IsRun answers old (belonging_to q t.head.items t.body) sent new × IsAccepted sent.status own said
+        → IsTimed answers a old q own said new
+    told_time new said leave (sent, ran, accepted) =
+        let (r, time, is, brings, head, body) = subst (TellsRequest q.head status) some tells in
+        told r time sent is (subst (λ (n : ℕ). BringsTime r n time) same brings) (subst (HasLeaveIn a q.principal) head leave)
+        (subst (λ (bytes : List ℕ). IsRun answers old (belonging_to q (time_head r) bytes) sent new) body
+        (subst (λ (bytes : List ℕ). IsRun answers old (belonging_to q bytes t.body) sent new) head ran)) accepted

@@ -2,6 +2,7 @@ pub mod Line
 pub mod Clock
 pub mod Hosts
 pub mod Lists
+pub mod Rejections
 pub mod Admission
 pub mod Waiting
 pub mod Runs
@@ -13,3 +14,4 @@ pub mod LiveRun
 pub mod Numbered
 pub mod LifePromises
 pub mod SavedRuns
+pub mod Granted

@@ -284,6 +284,14 @@ impl Admission {
         }
     }
 
+    // The head that is run and kept of a request with this head.
+    fn kept_of(&self, head: &Head<'_>) -> Result<Vec<u8>, Stop>
+        ensures { IfOk result (λ kept. IsHeadKept self.now head.now kept.items) }
+    {
+        let (most, strict) = (self.settings.lock_time, self.settings.strict);
+        Ok(head.kept(self.alloc, most, strict)?)
+    }
+
     /// Whether a request has leave of which this head is kept, of this user, or of nobody.
     pub fn has_leave(&self, user: Option<&str>, kept: &[u8]) -> Result<bool, Stop>
         ensures { IfOk result (λ leave.
@@ -326,7 +334,7 @@ impl Admission {
         if self.is_closed_to(head) {
             return Ok(refused_of(self.alloc, Reason::ReadOnly, principal));
         }
-        let kept = head.kept(self.alloc, self.settings.lock_time, self.settings.strict)?;
+        let kept = self.kept_of(head)?;
         if !self.has_leave(principal.as_deref(), &kept)? {
             return Ok(refused_of(self.alloc, reason_for(&principal), principal));
         }
@@ -389,7 +397,7 @@ impl Admission {
         principal: Option<String>,
         head: &Head<'_>,
     ) -> Result<Option<(Rejection, String)>, Stop> {
-        let kept = head.kept(self.alloc, self.settings.lock_time, self.settings.strict)?;
+        let kept = self.kept_of(head)?;
         if self.has_leave(principal.as_deref(), &kept)? {
             return Ok(None);
         }

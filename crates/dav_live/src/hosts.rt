@@ -1,11 +1,12 @@
 //! The names by which this server may be asked for (RFC 9110, section 7.2).
-ghost use Rattle.std.specs.Prelude.{◌≡◌, ◌↔◌, ◌∷◌, ◌++◌, IsTrue, Contains, MatchOption, codes, map, string_bytes};
+ghost use Rattle.std.specs.Prelude.{◌≡◌, ◌↔◌, ◌∷◌, ◌++◌, ℕ, IsTrue, Contains, List, MatchOption, codes, map, option_map, string_bytes};
+ghost use Rattle.std.specs.Bool.{Decides};
 ghost use Rattle.std.specs.List.{list_any};
 ghost use Rattle.dav_server.specs.Head.{is_same_name};
 ghost use Rattle.dav_live.specs.Hosts.{AreDigits, IsHostOf, TellsFor, TellsNamed, own_names, value_of};
+ghost use Rattle.dav_live.specs.Rejections.{HasAuthority, IsOfHost, IsOwnOrigin};
 
 use dav_http::Head;
-use std::str;
 
 // Whether these are digits.
 fn are_digits(text: &[u8]) -> bool
@@ -80,19 +81,31 @@ pub fn is_for(head: &Head<'_>, hosts: &[String]) -> bool
 }
 
 // The authority of an origin, which has a scheme before it (RFC 6454, section 6.2).
-fn authority_of(origin: &[u8]) -> Option<&[u8]> {
-    let text = str::from_utf8(origin).ok()?;
-    Some(text.split_once("://")?.1.as_bytes())
+fn authority_of(origin: &[u8]) -> Option<&[u8]>
+    ensures { MatchOption result ((a : List ℕ) → ¬ HasAuthority origin.now a)
+        (λ a. HasAuthority origin.now a.now) }
+{
+    let place = origin.iter().position(|b| *b == b':')?;
+    origin[place..].strip_prefix(b"://".as_slice())
 }
 
-/// Whether a page of another origin than this server's makes a request: its Origin has another authority than its Host, or
-/// none, as `null` (RFC 6454, section 7.3). The scheme isn't looked at: a proxy may have taken TLS away.
-pub fn is_foreign(head: &Head<'_>) -> bool {
-    let Some(origin) = head.value("origin") else {
-        return false;
-    };
-    match (authority_of(origin), head.value("host")) {
-        (Some(authority), Some(host)) => !authority.eq_ignore_ascii_case(host),
-        _ => true,
+// Whether an origin has the authority of a Host, if there is one.
+fn is_of_host(origin: &[u8], host: Option<&[u8]>) -> bool
+    ensures { Decides result (IsOfHost origin.now (option_map (λ v. v.now) host.entry)) }
+{
+    match (authority_of(origin), host) {
+        (Some(authority), Some(host)) => are_one(authority, host),
+        _ => false,
+    }
+}
+
+/// Whether a request comes of this server's own pages, or of no page: it has no Origin, or one with the authority of its Host; `null`
+/// has none (RFC 6454, section 7.3). The scheme isn't looked at: a proxy may have taken TLS away.
+pub fn is_own_origin(head: &Head<'_>) -> bool
+    ensures { Decides result (IsOwnOrigin head.now) }
+{
+    match head.value("origin") {
+        Some(origin) => is_of_host(origin, head.value("host")),
+        None => true,
     }
 }

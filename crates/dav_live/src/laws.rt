@@ -1,10 +1,12 @@
 //! Laws of a live server.
 ghost use Rattle.dav_live.specs.Clock.{ClocksDontJump};
+ghost use Rattle.dav_live.specs.Granted.{RepliesStayInGrants, TurnsStayInGrants, TurnsStaySound};
 ghost use Rattle.dav_live.specs.Life.{FirstDaysBegin, RestartsChangeNothing, RestartsGoOn, RunsAreTheMachines};
 ghost use Rattle.dav_live.specs.LifePromises.{LivesKeepPromises};
 ghost use Rattle.dav_live.specs.Tokens.{TokensDiffer};
 
 use dav_kept::Keeps;
+use sqlite_disk::Disk;
 
 /// Tokens of two numbers differ, whatever random bytes they are made of (RFC 4918, section 6.5).
 pub fn tokens_differ()
@@ -44,4 +46,17 @@ pub fn first_days_begin<J: Keeps>()
 /// what was held.
 pub fn restarts_go_on<J: Keeps>()
     ensures { RestartsGoOn J.kept J.has_read }
+{}
+
+/// Through each turn the content at paths stays where nobody who makes a request may write, by the rules of that moment, whatever is
+/// asked, read anew or ended in between; and a server that is sound stays so through any turn.
+pub fn turns_stay_in_grants<D: Disk>()
+    ensures elsewhere { TurnsStayInGrants D.Disk }
+    ensures sound { TurnsStaySound D.Disk }
+{}
+
+/// The reply to a request with leave that only reads, of a path that its user may read, tells of what he may read, and of the locks that
+/// cover it, and of nothing else.
+pub fn replies_stay_in_grants()
+    ensures { RepliesStayInGrants }
 {}

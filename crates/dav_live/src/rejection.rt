@@ -1,5 +1,13 @@
 //! Which requests aren't taken, by their heads alone (RFC 9110, section 15.5).
-use crate::hosts::{is_for, is_foreign};
+ghost use Rattle.std.specs.Prelude.{◌≡◌, ◌≢◌, ◌≤◌, ℕ, None, Ok, codes, map, string_bytes};
+ghost use Rattle.std.specs.Bool.{Decides};
+ghost use Rattle.dav_core.specs.declared.method.DavMethod.{DavMethod as DavMethodValue};
+ghost use Rattle.dav_headers.specs.Value.{Decodes, IsNumber};
+ghost use Rattle.dav_server.specs.Method.{GivesServed};
+ghost use Rattle.dav_live.specs.Hosts.{value_of};
+ghost use Rattle.dav_live.specs.Rejections as spec;
+
+use crate::hosts::{is_for, is_own_origin};
 use dav_core::method::DavMethod;
 use dav_http::{Head, is_safe};
 use dav_server::method::method_of;
@@ -27,37 +35,61 @@ pub fn is_plain_read(head: &[u8]) -> bool {
         })
 }
 
-// Whether the value of a Content-Length is more than so many; one that isn't a number of 64 bits is (RFC 9110, section 8.6).
-fn is_more(value: &[u8], most: u64) -> bool {
-    let Ok(text) = str::from_utf8(value) else {
-        return true;
-    };
-    match text.parse::<u64>() {
-        Ok(len) => len > most,
-        Err(_) => true,
+// The number that digits write, below 2^64. `parse` would take a plus sign before them.
+fn number(text: &[u8]) -> Option<u64>
+    ensures { Decodes IsNumber text.now result }
+{
+    if text.first() == Some(&b'+') {
+        return None;
     }
+    str::from_utf8(text).ok()?.parse::<u64>().ok()
 }
 
-// Whether a head states a body of more bytes than these (RFC 9112, section 6.2).
-fn states_more(head: &Head<'_>, most: u64) -> bool {
-    match head.value("content-length") {
-        Some(value) => is_more(value, most),
+// Whether the value of a Content-Length is a number of so many at most (RFC 9110, section 8.6).
+fn is_at_most(value: &[u8], most: u64) -> bool
+    ensures { Decides result ((n : ℕ) × IsNumber value.now n × (n ≤ most)) }
+{
+    match number(value) {
+        Some(len) => len <= most,
         None => false,
     }
 }
 
-// Whether a request may have a body; one in chunks may be empty (RFC 9112, section 7.1).
-fn may_have_body(head: &Head<'_>) -> bool {
-    states_more(head, 0) || head.value("transfer-encoding").is_some()
+// Whether a head states a body of so many bytes at most, or no length (RFC 9112, section 6.2).
+fn states_at_most(head: &Head<'_>, most: u64) -> bool
+    ensures { Decides result (spec.StatesAtMost most head.now) }
+{
+    match head.value("content-length") {
+        Some(value) => is_at_most(value, most),
+        None => true,
+    }
+}
+
+// Whether the body of a request comes in chunks, or may (RFC 9112, section 6.1).
+fn has_coding(head: &Head<'_>) -> bool
+    ensures { Decides result (value_of (codes "transfer-encoding") head.now ≢ None) }
+{
+    head.value("transfer-encoding").is_some()
+}
+
+// Whether a request may have a body of more bytes than so many; one in chunks may be empty (RFC 9112, section 7.1).
+fn may_have_more(head: &Head<'_>, most: u64) -> bool
+    ensures { Decides result (spec.MayHaveMore most head.now) }
+{
+    !states_at_most(head, most) || has_coding(head)
 }
 
 /// Whether a request may have a body so long that none of it is taken before it is known who makes the request.
-pub fn may_be_long(head: &Head<'_>) -> bool {
-    states_more(head, MOST_UNKNOWN) || head.value("transfer-encoding").is_some()
+pub fn may_be_long(head: &Head<'_>) -> bool
+    ensures { Decides result (spec.MayHaveMore 65536 head.now) }
+{
+    may_have_more(head, MOST_UNKNOWN)
 }
 
 // Whether the machine takes a body with this method; with the others it answers 415.
-fn takes_body(method: DavMethod) -> bool {
+fn takes_body(method: DavMethod) -> bool
+    ensures { result ≡ spec.takes_body method }
+{
     matches!(
         method,
         DavMethod::Put
@@ -68,14 +100,20 @@ fn takes_body(method: DavMethod) -> bool {
     )
 }
 
-// Why a request that may have a body isn't taken.
-fn body_rejection(head: &Head<'_>, hosts: &[String]) -> Option<Rejection> {
-    if !is_for(head, hosts) {
-        return Some(Rejection::Misdirected);
-    }
+// Whether a page of another origin makes a request that may change something.
+fn is_forged(head: &Head<'_>) -> bool
+    ensures { Decides result (spec.IsForged head.now) }
+{
+    !is_safe(head.method()) && !is_own_origin(head)
+}
+
+// Why a request with a method of this name, for this server, isn't taken that may have a body.
+fn body_rejection(head: &Head<'_>) -> Option<Rejection>
+    ensures { spec.TellsRefusedBody head.now result }
+{
     match method_of(head.method()) {
         Err(_) => Some(Rejection::NotImplemented),
-        Ok(method) if states_more(head, 0) && !takes_body(method) => {
+        Ok(method) if !takes_body(method) && !states_at_most(head, 0) => {
             Some(Rejection::UnsupportedMediaType)
         }
         Ok(_) => None,
@@ -84,12 +122,17 @@ fn body_rejection(head: &Head<'_>, hosts: &[String]) -> Option<Rejection> {
 
 /// Why a request isn't taken, if it isn't: a page of another origin may only read (RFC 6454); and no body is taken of a request
 /// for another server, with a method that isn't served, or with one that takes none. All else is left to the answer.
-pub fn rejection_of(head: &Head<'_>, hosts: &[String]) -> Option<Rejection> {
-    if !is_safe(head.method()) && is_foreign(head) {
+pub fn rejection_of(head: &Head<'_>, hosts: &[String]) -> Option<Rejection>
+    ensures { spec.TellsUntaken (map string_bytes hosts.now) head.now result }
+{
+    if is_forged(head) {
         return Some(Rejection::Forbidden);
     }
-    if may_have_body(head) {
-        return body_rejection(head, hosts);
+    if !may_have_more(head, 0) {
+        return None;
     }
-    None
+    if !is_for(head, hosts) {
+        return Some(Rejection::Misdirected);
+    }
+    body_rejection(head)
 }

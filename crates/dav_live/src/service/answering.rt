@@ -178,10 +178,10 @@ impl<H: Ends + Drop, J: Keeps + Drop> Service<H, J> {
     }
 
     // Runs the request by which the time of a file is set that another one brought, and says so where it was.
-    fn set_time_by(
+    fn set_time_by<'r>(
         &mut self,
-        set: &TimeRequest,
-        request: &Request<'_>,
+        set: &'r TimeRequest,
+        request: &Request<'r>,
         response: &mut Response,
     ) -> Result<(), Stop>
         ensures set { OnOk result ((sent : Sent)

@@ -1,6 +1,6 @@
 //! What is said of a request by its head alone.
 use super::unescaped;
-use crate::hosts::{is_for, is_foreign};
+use crate::hosts::{is_for, is_own_origin};
 use crate::rejection::{is_plain_read, may_be_long, rejection_of};
 use dav_http::Head;
 use std::alloc::{AllocError, Global};
@@ -165,7 +165,7 @@ fn names(alloc: Global) -> Result<Vec<String>, AllocError> {
 
 // What is said of a request with this Host and this Origin.
 fn names_said(head: &Head<'_>, hosts: &[String]) -> &'static str {
-    match (is_for(head, hosts), is_foreign(head)) {
+    match (is_for(head, hosts), !is_own_origin(head)) {
         (true, false) => "us same",
         (true, true) => "us foreign",
         (false, false) => "other same",
