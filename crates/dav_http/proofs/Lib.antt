@@ -26,3 +26,4 @@ pub mod OneAnswer
 pub mod SavedLaws
 pub mod SavedCalls
 pub mod HolderLemmas
+mod UploadedLemmas

@@ -2,6 +2,7 @@
 -- rclone send. The server sets it by a request of its own, a PROPPATCH of `getlastmodified` (RFC 4918, sections 9.2 and 15.7).
 use Rattle.std.specs.Prelude.{◌≡◌, ◌⊎◌, ◌≤◌, ℕ, List, ◌++◌, [], codes, Option, Some, None}
 use Rattle.std.specs.List.{slice_get}
+use Rattle.http_header.specs.FieldValue.{FieldValue}
 use Rattle.http_header.specs.HeaderMap.{get_all}
 use Rattle.dav_core.specs.World.{last_moment}
 use Rattle.dav_engine.specs.Date.{date_text_of}
@@ -9,10 +10,14 @@ use Rattle.dav_headers.specs.Length.{IsContentLength}
 use Rattle.dav_server.specs.Head.{Request, values_of}
 use Rattle.dav_server.specs.Headers.{headers_of}
 
--- A PUT tells when its file was changed last, in seconds since 1970: by a number of decimal digits, as Content-Length is one, of a moment
--- that HTTP can write as a date.
+-- values tell a time, in seconds since 1970: a number of decimal digits, as that of a Content-Length, of a moment that HTTP can write as a
+-- date
+abbrev pub AreTime : List FieldValue → ℕ → Type 0
+AreTime values time = IsContentLength values time × (time ≤ last_moment)
+
+-- a PUT tells when its file was changed last
 abbrev pub TellsTime : Request → ℕ → Type 0
-TellsTime r time = (r.method ≡ codes "PUT") × IsContentLength (get_all (headers_of r.fields) (codes "x-oc-mtime")) time × (time ≤ last_moment)
+TellsTime r time = (r.method ≡ codes "PUT") × AreTime (get_all (headers_of r.fields) (codes "x-oc-mtime")) time
 
 -- A PUT that was answered with this status brought its file, whose time it tells (RFC 9110, section 9.3.4).
 abbrev pub BringsTime : Request → ℕ → ℕ → Type 0

@@ -1,13 +1,12 @@
 //! The time of the file that a PUT brings, as its client tells it beside the file: X-OC-Mtime, which the clients of ownCloud and
 //! Nextcloud and rclone send. It is set by a request of the server's own.
-ghost use Rattle.std.specs.Prelude.{◌≡◌, ◌≤◌, ◌⊎◌, ◌++◌, ℕ, IfOk, IfSome, IfNone, MatchOption, OnOk, codes, option_map};
+ghost use Rattle.std.specs.Prelude.{◌≡◌, ◌≤◌, ◌⊎◌, ◌++◌, ℕ, IfOk, MatchOption, OnOk, codes, option_map};
 ghost use Rattle.std.specs.Bool.{Decides};
 ghost use Rattle.http_header.specs.HeaderMap.{get_all};
 ghost use Rattle.dav_core.specs.World.{last_moment};
-ghost use Rattle.dav_headers.specs.Length.{IsContentLength};
 ghost use Rattle.dav_server.specs.Head.{IsHead, Request};
 ghost use Rattle.dav_server.specs.Headers.{headers_of};
-ghost use Rattle.dav_http.specs.Uploaded.{BringsTime, TellsTime, if_line, time_body, time_head};
+ghost use Rattle.dav_http.specs.Uploaded.{AreTime, BringsTime, TellsTime, if_line, time_body, time_head};
 
 use crate::head::Head;
 use bytes::Bytes;
@@ -17,7 +16,7 @@ use dav_headers::ContentLength;
 use dav_presented::times::date_text;
 use dav_server::exchange::LAST_MOMENT;
 use dav_server::head::headers_of;
-use http_header::HeaderName;
+use http_header::{HeaderName, HeaderValue};
 use std::alloc::Global;
 
 /// The request by which the server sets the time of a file.
@@ -36,19 +35,29 @@ fn is_done(status: u16) -> bool
     status == 201 || status == 204
 }
 
+// The time that values tell, if they tell one.
+fn time_of_values(alloc: Global, values: &[HeaderValue]) -> Option<u64>
+    ensures { MatchOption result ((time : ℕ) → ¬ AreTime values.now time) (AreTime values.now) }
+{
+    let Ok(ContentLength(time)) = ContentLength::decode(alloc, values) else {
+        return None;
+    };
+    if time <= LAST_MOMENT {
+        Some(time)
+    } else {
+        None
+    }
+}
+
 // The time that X-OC-Mtime tells, if it tells one.
 fn time_in(alloc: Global, head: &Head<'_>) -> Result<Option<u64>, NoMemory>
-    ensures some { IfOk result (λ found. IfSome found (λ time. (time ≤ last_moment)
-        × IsContentLength (get_all (headers_of head.now.fields) (codes "x-oc-mtime")) time)) }
-    ensures none { IfOk result (λ found. IfNone found ((time : ℕ) → time ≤ last_moment
-        → ¬ IsContentLength (get_all (headers_of head.now.fields) (codes "x-oc-mtime")) time)) }
+    ensures { IfOk result (λ found. MatchOption found
+        ((time : ℕ) → ¬ AreTime (get_all (headers_of head.now.fields) (codes "x-oc-mtime")) time)
+        (AreTime (get_all (headers_of head.now.fields) (codes "x-oc-mtime")))) }
 {
     let headers = headers_of(alloc, head.view())?;
     let values = values_of(alloc, &headers, HeaderName::from_static("x-oc-mtime"))?;
-    match ContentLength::decode(alloc, &values) {
-        Ok(ContentLength(time)) if time <= LAST_MOMENT => Ok(Some(time)),
-        _ => Ok(None),
-    }
+    Ok(time_of_values(alloc, &values))
 }
 
 // The time that a PUT tells of its file.
