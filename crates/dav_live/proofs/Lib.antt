@@ -10,4 +10,5 @@ pub mod LifePromises
 pub mod FirstDays
 pub mod Restarts
 pub mod AdmissionLemmas
+mod LoginLemmas
 mod ClockLemmas

@@ -54,8 +54,8 @@ abbrev pub belonging_to : RequestView → List ℕ → List ℕ → RequestView
 belonging_to q head body = record { moment = q.moment; principal = q.principal; token = None; head = head; body = body }
 
 -- a response that says besides that a time is kept, where it was set with this status (RFC 4918, section 9.2.1)
-pub record IsAccepted (status : ℕ) (own said : Response) : Type 0 where
-  pub fields : fields_of said ≡ fields_of own ++ (if status == 207 then (codes "x-oc-mtime", codes "accepted") ∷ [] else [])
+pub record IsAccepted (answer : ℕ) (own said : Response) : Type 0 where
+  pub fields : fields_of said ≡ fields_of own ++ (if answer == 207 then (codes "x-oc-mtime", codes "accepted") ∷ [] else [])
   pub status : said.status ≡ own.status
   pub body : said.body ≡ own.body
 

@@ -38,16 +38,16 @@ wait_fields seconds = (codes "retry-after", if seconds == 1 then codes "1" else 
 -- What is known of logins after a request with this head was answered with this status. The login that it shows is wrong where that is 401,
 -- and right where it is neither that nor 421, of which the login isn't looked at.
 pub data IsAfterLogin (a : AdmissionView) (l : LoginsView) (head : List ℕ) (status : ℕ) : LoginsView → Type 0 where
-  wrong : (r : Request) (name password : List ℕ) → IsHead head r → ShowsLogin a r name password → status ≡ 401
+  was_wrong : (r : Request) (name password : List ℕ) → IsHead head r → ShowsLogin a r name password → status ≡ 401
       → IsAfterLogin a l head status (after_wrong l name password (seconds_of a))
-  right : (r : Request) (name password : List ℕ) → IsHead head r → ShowsLogin a r name password → status ≢ 401 → status ≢ 421
+  was_right : (r : Request) (name password : List ℕ) → IsHead head r → ShowsLogin a r name password → status ≢ 401 → status ≢ 421
       → IsAfterLogin a l head status (after_right l name password)
-  misdirected : status ≡ 421 → IsAfterLogin a l head status l
-  no_login : ((r : Request) (name password : List ℕ) → IsHead head r → ¬ ShowsLogin a r name password) → IsAfterLogin a l head status l
+  was_misdirected : status ≡ 421 → IsAfterLogin a l head status l
+  showed_none : ((r : Request) (name password : List ℕ) → IsHead head r → ¬ ShowsLogin a r name password) → IsAfterLogin a l head status l
 
 -- And after one with this head was judged: the login that it shows is wrong where that is why it isn't taken.
 pub data IsAfterVerdict (a : AdmissionView) (l : LoginsView) (head : List ℕ) (verdict : Option Rejection) : LoginsView → Type 0 where
-  wrong : (r : Request) (name password : List ℕ) → IsHead head r → ShowsLogin a r name password → verdict ≡ Some Unauthorized
+  judged_wrong : (r : Request) (name password : List ℕ) → IsHead head r → ShowsLogin a r name password → verdict ≡ Some Unauthorized
       → IsAfterVerdict a l head verdict (after_wrong l name password (seconds_of a))
-  other : verdict ≢ Some Unauthorized → IsAfterVerdict a l head verdict l
-  no_login : ((r : Request) (name password : List ℕ) → IsHead head r → ¬ ShowsLogin a r name password) → IsAfterVerdict a l head verdict l
+  judged_else : verdict ≢ Some Unauthorized → IsAfterVerdict a l head verdict l
+  judged_nobody : ((r : Request) (name password : List ℕ) → IsHead head r → ¬ ShowsLogin a r name password) → IsAfterVerdict a l head verdict l

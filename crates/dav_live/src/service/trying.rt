@@ -1,6 +1,5 @@
 //! A login is tried: who has to wait isn't heard.
-ghost use Rattle.std.specs.Prelude.{◌≡◌, ◌==◌, [], OnOk, codes, if◌then◌else◌};
-ghost use Rattle.http_header.specs.Value.{plain_value};
+ghost use Rattle.std.specs.Prelude.{[], OnOk};
 ghost use Rattle.http_server.specs.Response.{IsBlank, IsResponse};
 ghost use Rattle.dav_live.specs.Waiting.{wait_fields};
 
@@ -153,22 +152,16 @@ impl<H: Ends + Drop, J: Keeps + Drop> Service<H, J> {
     }
 }
 
-// When to come again who has to wait so many seconds.
-fn wait_value(seconds: u64) -> HeaderValue
-    ensures { result ≡ plain_value (if seconds == 1 then codes "1" else codes "60") }
-{
-    if seconds == 1 {
-        HeaderValue::from_static("1")
-    } else {
-        HeaderValue::from_static("60")
-    }
-}
-
 // Fills the response to a request that has to wait so many seconds (RFC 6585, section 4).
 fn fill_wait(seconds: u64, response: &mut Response) -> Result<(), Stop>
     requires { IsBlank response.old }
     ensures { OnOk result (IsResponse 429 (wait_fields seconds) [] response.new) }
 {
     response.status = StatusCode::TOO_MANY_REQUESTS;
-    Ok(response.add_header(RETRY_AFTER, wait_value(seconds))?)
+    let value = if seconds == 1 {
+        HeaderValue::from_static("1")
+    } else {
+        HeaderValue::from_static("60")
+    };
+    Ok(response.add_header(RETRY_AFTER, value)?)
 }
