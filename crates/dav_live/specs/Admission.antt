@@ -1,22 +1,20 @@
 -- Which requests a live server runs, and what it runs of them.
-use Rattle.std.specs.Prelude.{◌≡◌, ◌≢◌, ◌<◌, ◌⊎◌, ◌↔◌, ◌==◌, ◌&&◌, ℕ, Bool, true, false, List, [], ◌∷◌, ◌++◌, Option, Some, None, Ok, Err, IfSome, IsTrue, if◌then◌else◌, codes, count_by, drop, length, min, option_map, string_bytes, take, unwrap_or}
+use Rattle.std.specs.Prelude.{◌≡◌, ◌≢◌, ◌<◌, ◌⊎◌, ◌↔◌, ◌==◌, ◌&&◌, ℕ, Bool, true, false, List, [], ◌∷◌, ◌++◌, Option, Some, None, Err, IfSome, IsTrue, if◌then◌else◌, codes, count_by, drop, length, min, option_map, string_bytes, take, unwrap_or}
 use Rattle.std.specs.Option.{is_none, is_some}
 use Rattle.dav_access.specs.Rules.{Rules}
 use Rattle.dav_confined.specs.Leave.{Permits}
 use Rattle.dav_core.specs.World.{last_moment}
 use Rattle.dav_core.specs.declared.errors.DavError.TheVariants.{IllegalPath}
-use Rattle.dav_core.specs.declared.method.DavMethod.{DavMethod}
 use Rattle.dav_core.specs.declared.method.DavMethod.TheVariants.{Get}
 use Rattle.dav_access.specs.Principals.{IsPrincipal, ShowsNoUser}
 use Rattle.dav_http.specs.Kept.{IsKeptOf, Says}
 use Rattle.dav_kept.specs.Records.{RequestView}
 use Rattle.dav_server.specs.Head.{Request}
-use Rattle.dav_server.specs.Method.{GivesServed}
-use Rattle.dav_server.specs.TagLaws.{is_safe}
 use Rattle.dav_server.specs.Target.{TargetNames}
 use Rattle.dav_live.specs.Clock.{moment_after}
 use Rattle.dav_live.specs.Hosts.{TellsFor, value_of}
 use Rattle.dav_live.specs.Numbered.{HasNumber}
+use Rattle.dav_live.specs.Rejections.{IsSafe}
 use Rattle.dav_live.specs.Tokens.{token_text}
 use Rattle.dav_live.specs.declared.admission.Admitted.{Admitted}
 use Rattle.dav_live.specs.declared.admission.Decision.{Decision}
@@ -78,13 +76,9 @@ abbrev pub reason_for : Option (List ℕ) → Reason
 reason_for None = Unauthorized
 reason_for (Some user) = Forbidden
 
--- a request only reads (RFC 9110, section 9.2.1)
-abbrev pub IsSafe : Request → Type 0
-IsSafe r = (m : DavMethod) × GivesServed r.method (Ok m) × (is_safe m ≡ true)
-
 -- a request may do more than read, and none may
 abbrev pub IsClosedTo : AdmissionView → Request → Type 0
-IsClosedTo a r = (a.read_only ≡ true) × ¬ IsSafe r
+IsClosedTo a r = (a.read_only ≡ true) × ¬ IsSafe r.method
 
 -- A request isn't run, for this reason: it is for another host (RFC 9110, section 7.4); no user is shown, but this name (RFC 9110,
 -- section 15.5.2); its paths have too many slashes; its target isn't below the prefix; requests may only read; or what would be run of it has
@@ -134,7 +128,7 @@ request_in a admitted body = record {
 
 -- this says whether a request only reads (RFC 9110, section 9.2.1)
 abbrev pub TellsSafe : Request → Bool → Type 0
-TellsSafe r is = IsTrue is ↔ IsSafe r
+TellsSafe r is = IsTrue is ↔ IsSafe r.method
 
 -- what becomes of a request with this body, where tokens of so many numbers were given
 abbrev pub IsDecision : AdmissionView → ℕ → Request → List ℕ → Decision → Type 0

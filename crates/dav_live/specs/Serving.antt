@@ -15,7 +15,6 @@ use Rattle.dav_kept.specs.declared.kept.Kept.{Kept}
 use Rattle.dav_server.specs.Head.{IsHead, Request}
 use Rattle.dav_wire.specs.declared.answer.Asked.{Asked}
 use Rattle.dav_wire.specs.declared.answer.Rejection.{Rejection}
-use Rattle.dav_wire.specs.declared.answer.Rejection.TheVariants.{TooManyRequests}
 use Rattle.dav_live.specs.Admission.{AdmissionView, HasLeaveIn, IsRequestOf, IsTurnedAway, after_clocks, refusal_fields, status_of, with_random}
 use Rattle.dav_live.specs.Lists.{IsFaulty, Reports}
 use Rattle.dav_live.specs.Runs.{Commits, GoesOn, Saves, StaysKept}
@@ -95,8 +94,10 @@ pub data IsReplyTo {S : Type 0} (answers : S → RequestView → Response → S 
     (a : AdmissionView) (l : LoginsView) (old : Holding S) (asked : Asked) (own : Response) (new : Holding S) (after : LoginsView) : Type 0 where
   told_to_wait : (r : Request) (seconds : ℕ) → IsHead asked.head r → HasToWait a l r seconds → IsResponse 429 (wait_fields seconds) [] own
       → new ≡ old → after ≡ l → IsReplyTo answers refuses a l old asked own new after
-  heard : ((r : Request) → IsHead asked.head r → MayBeHeard a l r) → IsResponseTo answers refuses a old asked own new
-      → IsAfterLogin a l asked.head own.status after → IsReplyTo answers refuses a l old asked own new after
+  heard : (r : Request) → IsHead asked.head r → MayBeHeard a l r → IsResponseTo answers refuses a old asked own new
+      → IsAfterLogin a l r own.status after → IsReplyTo answers refuses a l old asked own new after
+  headless : ((r : Request) → ¬ IsHead asked.head r) → IsResponseTo answers refuses a old asked own new → after ≡ l
+      → IsReplyTo answers refuses a l old asked own new after
 
 -- the response as it is sent: with the date of a moment (RFC 9110, section 6.6.1)
 pub record IsDated (moment : ℕ) (own sent : Response) : Type 0 where
@@ -121,13 +122,11 @@ pub record Serves {H J : Type 0} (answers : H → RequestView → Response → H
 abbrev pub StaysAll : {H J : Type 0} → Service H J → Service H J → Type 0
 StaysAll old new = (admission_of new ≡ admission_of old) × (kept_of new ≡ kept_of old)
 
--- A request isn't taken, by its head alone, or may go on: what the service goes by stays, and a login that was wrong is noted. Who is told
--- to come again after a minute has to wait.
+-- A request isn't taken, by its head alone, or may go on: what the service goes by stays, and a login is noted that was wrong.
 pub record IsJudged {H J : Type 0} (old : Service H J) (head : List ℕ) (verdict : Option Rejection) (new : Service H J) : Type 0 where
   pub same : StaysAll old new
-  pub login : IsAfterVerdict (admission_of old) (logins_of old) head verdict (logins_of new)
-  pub waits : verdict ≡ Some TooManyRequests
-      → (r : Request) × (seconds : ℕ) × IsHead head r × HasToWait (admission_of old) (logins_of old) r seconds
+  pub login : ((verdict ≡ None) × (logins_of new ≡ logins_of old))
+      ⊎ ((r : Request) × IsHead head r × IsAfterVerdict (admission_of old) (logins_of old) r verdict (logins_of new))
 
 -- the requests that follow come from this address
 abbrev pub IsPlaced : {H J : Type 0} → Service H J → List ℕ → Service H J → Type 0

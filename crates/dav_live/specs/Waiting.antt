@@ -2,7 +2,7 @@
 use Rattle.std.specs.Prelude.{◌≡◌, ◌≢◌, ◌==◌, ℕ, List, [], ◌∷◌, Option, Some, None, codes, if◌then◌else◌, unwrap_or}
 use Rattle.dav_access.specs.Basic.{IsBasic}
 use Rattle.dav_access.specs.Logins.{LoginsView, after_right, after_wrong, wait_of}
-use Rattle.dav_server.specs.Head.{IsHead, Request}
+use Rattle.dav_server.specs.Head.{Request}
 use Rattle.dav_wire.specs.declared.answer.Rejection.{Rejection}
 use Rattle.dav_wire.specs.declared.answer.Rejection.TheVariants.{Unauthorized}
 use Rattle.dav_live.specs.Admission.{AdmissionView}
@@ -35,19 +35,19 @@ MayBeHeard a l r = (seconds : ℕ) → ¬ HasToWait a l r seconds
 abbrev pub wait_fields : ℕ → List (List ℕ × List ℕ)
 wait_fields seconds = (codes "retry-after", if seconds == 1 then codes "1" else codes "60") ∷ []
 
--- What is known of logins after a request with this head was answered with this status. The login that it shows is wrong where that is 401,
--- and right where it is neither that nor 421, of which the login isn't looked at.
-pub data IsAfterLogin (a : AdmissionView) (l : LoginsView) (head : List ℕ) (status : ℕ) : LoginsView → Type 0 where
-  was_wrong : (r : Request) (name password : List ℕ) → IsHead head r → ShowsLogin a r name password → status ≡ 401
-      → IsAfterLogin a l head status (after_wrong l name password (seconds_of a))
-  was_right : (r : Request) (name password : List ℕ) → IsHead head r → ShowsLogin a r name password → status ≢ 401 → status ≢ 421
-      → IsAfterLogin a l head status (after_right l name password)
-  was_misdirected : status ≡ 421 → IsAfterLogin a l head status l
-  showed_none : ((r : Request) (name password : List ℕ) → IsHead head r → ¬ ShowsLogin a r name password) → IsAfterLogin a l head status l
+-- What is known of logins after a request was answered with this status. The login that it shows is wrong where that is 401, and right
+-- where it is neither that nor 421, of which the login isn't looked at.
+pub data IsAfterLogin (a : AdmissionView) (l : LoginsView) (r : Request) (status : ℕ) : LoginsView → Type 0 where
+  was_wrong : (name password : List ℕ) → ShowsLogin a r name password → status ≡ 401
+      → IsAfterLogin a l r status (after_wrong l name password (seconds_of a))
+  was_right : (name password : List ℕ) → ShowsLogin a r name password → status ≢ 401 → status ≢ 421
+      → IsAfterLogin a l r status (after_right l name password)
+  was_misdirected : status ≡ 421 → IsAfterLogin a l r status l
+  showed_none : ((name password : List ℕ) → ¬ ShowsLogin a r name password) → IsAfterLogin a l r status l
 
--- And after one with this head was judged: the login that it shows is wrong where that is why it isn't taken.
-pub data IsAfterVerdict (a : AdmissionView) (l : LoginsView) (head : List ℕ) (verdict : Option Rejection) : LoginsView → Type 0 where
-  judged_wrong : (r : Request) (name password : List ℕ) → IsHead head r → ShowsLogin a r name password → verdict ≡ Some Unauthorized
-      → IsAfterVerdict a l head verdict (after_wrong l name password (seconds_of a))
-  judged_else : verdict ≢ Some Unauthorized → IsAfterVerdict a l head verdict l
-  judged_nobody : ((r : Request) (name password : List ℕ) → IsHead head r → ¬ ShowsLogin a r name password) → IsAfterVerdict a l head verdict l
+-- And after one was judged by its head: the login that it shows is wrong where that is why it isn't taken.
+pub data IsAfterVerdict (a : AdmissionView) (l : LoginsView) (r : Request) (verdict : Option Rejection) : LoginsView → Type 0 where
+  judged_wrong : (name password : List ℕ) → ShowsLogin a r name password → verdict ≡ Some Unauthorized
+      → IsAfterVerdict a l r verdict (after_wrong l name password (seconds_of a))
+  judged_else : verdict ≢ Some Unauthorized → IsAfterVerdict a l r verdict l
+  judged_nobody : ((name password : List ℕ) → ¬ ShowsLogin a r name password) → IsAfterVerdict a l r verdict l

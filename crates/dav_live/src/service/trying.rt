@@ -15,13 +15,13 @@ use http_header::{HeaderValue, RETRY_AFTER};
 use http_server::Response;
 
 impl<H: Ends + Drop, J: Keeps + Drop> Service<H, J> {
-    ghost use Rattle.std.specs.Prelude.{◌≡◌, ◌≢◌, ℕ, List, Some, IfOk, OnOk, string_bytes};
+    ghost use Rattle.std.specs.Prelude.{◌≡◌, ◌≢◌, Some, IfOk, OnOk, string_bytes};
     ghost use Rattle.http_server.specs.Response.{IsBlank};
     ghost use Rattle.dav_access.specs.Logins.{after_right, after_wrong, wait_of};
     ghost use Rattle.dav_server.specs.Head.{IsHead};
     ghost use Rattle.dav_live.specs.Runs.{GoesOn};
-    ghost use Rattle.dav_live.specs.Serving.{IsJudged, IsReplyTo, StaysAll, admission_of, held_of, kept_of, logins_of};
-    ghost use Rattle.dav_live.specs.Waiting.{seconds_of};
+    ghost use Rattle.dav_live.specs.Serving.{IsReplyTo, StaysAll, admission_of, held_of, kept_of, logins_of};
+    ghost use Rattle.dav_live.specs.Waiting.{IsAfterVerdict, seconds_of};
 
     // For how many seconds a login has to wait.
     fn wait_for(&self, login: &Credentials) -> u64
@@ -99,8 +99,9 @@ impl<H: Ends + Drop, J: Keeps + Drop> Service<H, J> {
 
     // Judges a head that was read: who has to wait may not, and else as the server says.
     pub(super) fn judge_head(&mut self, head: &Head<'_>) -> Result<Option<Rejection>, Stop>
-        ensures { IfOk result (λ verdict. (bytes : List ℕ) → IsHead bytes head.now
-            → IsJudged self.old bytes verdict self.new) }
+        ensures same { OnOk result (StaysAll self.old self.new) }
+        ensures login { IfOk result (λ verdict. IsAfterVerdict (admission_of self.old)
+            (logins_of self.old) head.now verdict (logins_of self.new)) }
     {
         if self.admission.is_closed_to(head) {
             return self.reject(Rejection::Forbidden, "", head);
