@@ -74,7 +74,7 @@ module _ (covered : Path → Bool) (s : Settings) (x : Exchange) (off : KeepsOff
   means_spares (no_method r e head gives) = spares_err
   means_spares (known r m head gives means) = of_spares r head gives means
 
-  step_spares : {old new : StoreState} {ls : List Lock} {ms : Locks} {reply : Reply} → x.moment ≤ last_moment → IsWorld old.world → Steps s x old (Some ls) reply new ms → Spared covered old.world new.world × OnList AnyList ms
+  pub step_spares : {old new : StoreState} {ls : List Lock} {ms : Locks} {reply : Reply} → x.moment ≤ last_moment → IsWorld old.world → Steps s x old (Some ls) reply new ms → Spared covered old.world new.world × OnList AnyList ms
   step_spares {old} {ls = ls} small world (steps plan outcome {new} {ms} means ran) =
       spared_paths_stay covered plan old new ls ms outcome (means_spares means) (means_proper small means) ran world
 
@@ -132,7 +132,7 @@ pub steps_keep_other_locks : StepsKeepOtherLocks
 steps_keep_other_locks covered s x old new ls ms reply h off on stands unsaid own (steps plan outcome means ran) =
     kept_locks_stand h plan old new ls ms outcome (means_keeps covered s x off h on own unsaid means) ran stands
 
-spared_on : (covered : Path → Bool) (w m v : World) → Spared covered w m → Spared covered m v → Spared covered w v
+pub spared_on : (covered : Path → Bool) (w m v : World) → Spared covered w m → Spared covered m v → Spared covered w v
 spared_on covered w m v one two = record { same = λ q within. one.same q within ∙ two.same q within; above = λ p q up within folder. two.above p q up within (one.above p q up within folder) }
 
 module _ (covered : Path → Bool) (s : Settings) where

@@ -33,7 +33,7 @@ one_body method moment bytes _ _ (as_bytes some not) (as_tree also takes) = absu
 one_body method moment bytes _ _ (as_bytes some not) (as_bytes also not_too) = refl
 
 -- a head is handed in as one request of the machine
-one_exchange : (head bytes : List ℕ) (who : Caller) (x y : Exchange) (r : Request) → IsHead head r → IsExchangeOf head bytes who x → IsExchangeOf head bytes who y → x ≡ y
+pub one_exchange : (head bytes : List ℕ) (who : Caller) (x y : Exchange) (r : Request) → IsHead head r → IsExchangeOf head bytes who x → IsExchangeOf head bytes who y → x ≡ y
 one_exchange head bytes who x y r is a b =
     let method : b.method ≡ a.method = b.is_method r is ∙ sym (a.is_method r is) in
     let body : x.body ≡ y.body = one_body a.method x.moment bytes x.body y.body a.body

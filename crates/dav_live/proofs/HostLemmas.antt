@@ -5,7 +5,7 @@ use Rattle.std.proofs.lemmas.List.Elements.{All-contains, Contains-append_right}
 use Rattle.dav_live.specs.Hosts.{AreDigits}
 
 -- a text that goes on with a colon has one
-has_colon : (a p : List ℕ) → Contains (a ++ 58 ∷ p) 58
+pub has_colon : (a p : List ℕ) → Contains (a ++ 58 ∷ p) 58
 has_colon a p = Contains-append_right a (58 ∷ p) 58 (0, omega arith, refl)
 
 -- what follows the last colon is one text
@@ -15,8 +15,16 @@ last_colon [] (y ∷ ys) p q same no_p no_q = absurd (no_p (subst (λ (t : List 
 last_colon (x ∷ xs) [] p q same no_p no_q = absurd (no_q (subst (λ (t : List ℕ). Contains t 58) (ap (drop 1) same) (has_colon xs p)))
 last_colon (x ∷ xs) (y ∷ ys) p q same no_p no_q = last_colon xs ys p q (ap (drop 1) same) no_p no_q
 
+-- and so is what comes before it
+pub front_of_last : (a b p q : List ℕ) → a ++ 58 ∷ p ≡ b ++ 58 ∷ q → ¬ Contains p 58 → ¬ Contains q 58 → a ≡ b
+front_of_last [] [] p q same no_p no_q = refl
+front_of_last [] (y ∷ ys) p q same no_p no_q = absurd (no_p (subst (λ (t : List ℕ). Contains t 58) (sym (ap (drop 1) same)) (has_colon ys q)))
+front_of_last (x ∷ xs) [] p q same no_p no_q = absurd (no_q (subst (λ (t : List ℕ). Contains t 58) (ap (drop 1) same) (has_colon xs p)))
+front_of_last (x ∷ xs) (y ∷ ys) p q same no_p no_q =
+    let tails = front_of_last xs ys p q (ap (drop 1) same) no_p no_q in cc
+
 -- digits are no colon
-no_colon : (p : List ℕ) → AreDigits p → ¬ Contains p 58
+pub no_colon : (p : List ℕ) → AreDigits p → ¬ Contains p 58
 no_colon p digits has = let it = All-contains (λ b. (48 ≤ b) × (b ≤ 57)) p 58 digits has in omega (arith, it.1)
 
 pub no_port : (t host port : List ℕ) → t ≡ host ++ 58 ∷ port → ¬ Contains port 58 → ¬ AreDigits port → (h p : List ℕ) → t ≡ h ++ 58 ∷ p → ¬ AreDigits p

@@ -12,3 +12,6 @@ pub mod Restarts
 pub mod AdmissionLemmas
 mod LoginLemmas
 mod ClockLemmas
+mod GrantedLemmas
+mod UnlockTexts
+mod RejectionLemmas

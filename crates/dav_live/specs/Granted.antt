@@ -89,8 +89,8 @@ pub record AreAlikeAt (seen : Path → Bool) (a b : Server) : Type 0 where
 -- cover it, and of nothing else: two servers that agree there give the same reply, byte for byte.
 abbrev pub RepliesStayInGrants : Type 0
 RepliesStayInGrants =
-    (rules : Rules) (q : RequestView) (a b after later : Server) (reply other : Reply)
-    → Permits rules a.settings.prefix q.principal q.head
+    (rules : Rules) (q : RequestView) (r : Request) (a b after later : Server) (reply other : Reply)
+    → IsHead q.head r → Permits rules a.settings.prefix q.principal q.head
     → ((x : Exchange) → IsExchangeOf q.head q.body (caller_of q) x → OnlyReadsThere rules a.settings x)
     → AreAlikeAt (may_read rules q.principal) a b
     → IsStepFor q.head q.body (caller_of q) a reply after → IsStepFor q.head q.body (caller_of q) b other later

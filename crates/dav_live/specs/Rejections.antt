@@ -1,7 +1,8 @@
 -- Which requests aren't taken, by their heads alone (RFC 9110, section 15.5).
-use Rattle.std.specs.Prelude.{◌≡◌, ◌≢◌, ◌⊎◌, ◌≤◌, ℕ, Bool, true, false, List, [], ◌++◌, Contains, IfSome, Option, Some, None, Ok, codes}
+use Rattle.std.specs.Prelude.{◌≡◌, ◌≢◌, ◌⊎◌, ◌≤◌, ℕ, Bool, true, false, List, ◌++◌, IfSome, Option, Some, None, Ok, codes}
 use Rattle.dav_core.specs.declared.method.DavMethod.{DavMethod}
 use Rattle.dav_core.specs.declared.method.DavMethod.TheVariants.{Put, Patch, PropFind, PropPatch, Lock as LockMethod}
+use Rattle.dav_headers.specs.Cut.{IsCut}
 use Rattle.dav_headers.specs.Value.{IsNumber}
 use Rattle.dav_server.specs.Head.{Request, is_same_name}
 use Rattle.dav_server.specs.Method.{GivesServed}
@@ -12,9 +13,9 @@ use Rattle.dav_live.specs.Hosts.{TellsFor, value_of}
 
 -- ---- where a request comes from
 
--- an origin has this authority: what follows its scheme and `://` (RFC 6454, section 6.2)
+-- an origin has this authority: what follows its scheme, a colon and two slashes (RFC 6454, section 6.2)
 abbrev pub HasAuthority : List ℕ → List ℕ → Type 0
-HasAuthority origin authority = (scheme : List ℕ) × (origin ≡ scheme ++ (codes "://" ++ authority)) × ¬ Contains scheme 58
+HasAuthority origin authority = (scheme : List ℕ) × IsCut 58 origin scheme (codes "//" ++ authority)
 
 -- an origin has the authority of a Host, if there is one, in letters of either case
 abbrev pub IsOfHost : List ℕ → Option (List ℕ) → Type 0

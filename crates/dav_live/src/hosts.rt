@@ -2,6 +2,7 @@
 ghost use Rattle.std.specs.Prelude.{◌≡◌, ◌↔◌, ◌∷◌, ◌++◌, ℕ, IsTrue, Contains, List, MatchOption, codes, map, option_map, string_bytes};
 ghost use Rattle.std.specs.Bool.{Decides};
 ghost use Rattle.std.specs.List.{list_any};
+ghost use Rattle.dav_headers.specs.Cut.{IsCut};
 ghost use Rattle.dav_server.specs.Head.{is_same_name};
 ghost use Rattle.dav_live.specs.Hosts.{AreDigits, IsHostOf, TellsFor, TellsNamed, own_names, value_of};
 ghost use Rattle.dav_live.specs.Rejections.{HasAuthority, IsOfHost, IsOwnOrigin};
@@ -80,22 +81,36 @@ pub fn is_for(head: &Head<'_>, hosts: &[String]) -> bool
     }
 }
 
+// What comes before the first colon of a text, and what after it.
+fn cut_at_colon(text: &[u8]) -> Option<(&[u8], &[u8])>
+    ensures { MatchOption result (¬ Contains text.now 58)
+        (λ parts. IsCut 58 text.now parts.0.now parts.1.now) }
+{
+    let place = text.iter().position(|b| *b == b':')?;
+    Some((&text[..place], &text[place + 1..]))
+}
+
 // The authority of an origin, which has a scheme before it (RFC 6454, section 6.2).
 fn authority_of(origin: &[u8]) -> Option<&[u8]>
     ensures { MatchOption result ((a : List ℕ) → ¬ HasAuthority origin.now a)
         (λ a. HasAuthority origin.now a.now) }
 {
-    let place = origin.iter().position(|b| *b == b':')?;
-    origin[place..].strip_prefix(b"://".as_slice())
+    match cut_at_colon(origin) {
+        Some((_, rest)) => rest.strip_prefix(b"//".as_slice()),
+        None => None,
+    }
 }
 
 // Whether an origin has the authority of a Host, if there is one.
 fn is_of_host(origin: &[u8], host: Option<&[u8]>) -> bool
     ensures { Decides result (IsOfHost origin.now (option_map (λ v. v.now) host.entry)) }
 {
-    match (authority_of(origin), host) {
-        (Some(authority), Some(host)) => are_one(authority, host),
-        _ => false,
+    let Some(host) = host else {
+        return false;
+    };
+    match authority_of(origin) {
+        Some(authority) => are_one(authority, host),
+        None => false,
     }
 }
 

@@ -42,7 +42,10 @@ fn number(text: &[u8]) -> Option<u64>
     if text.first() == Some(&b'+') {
         return None;
     }
-    str::from_utf8(text).ok()?.parse::<u64>().ok()
+    match str::from_utf8(text) {
+        Ok(text) => text.parse::<u64>().ok(),
+        Err(_) => None,
+    }
 }
 
 // Whether the value of a Content-Length is a number of so many at most (RFC 9110, section 8.6).

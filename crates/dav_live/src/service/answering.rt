@@ -1,10 +1,11 @@
 //! A request is answered: it is let in, and run.
-ghost use Rattle.std.specs.Prelude.{◌≡◌, ◌≤◌, OnOk};
+ghost use Rattle.std.specs.Prelude.{◌≡◌, ◌≤◌, ◌==◌, ◌++◌, ◌∷◌, [], IfOk, OnOk, codes, if◌then◌else◌, option_map, string_bytes};
 ghost use Rattle.std.specs.Option.{option_copied};
 ghost use Rattle.dav_core.specs.World.{last_moment};
 ghost use Rattle.dav_kept.specs.Records.{IsRecord};
 ghost use Rattle.dav_live.specs.Admission.{AdmissionView, request_in};
-ghost use Rattle.dav_live.specs.Serving.{IsAccepted, IsDated};
+ghost use Rattle.dav_live.specs.Serving.{IsDated};
+ghost use Rattle.http_server.specs.Response.{fields_of};
 
 use crate::admission::{Admitted, Decision, refuse};
 use crate::ends::Ends;
@@ -22,7 +23,8 @@ use httpdate::HttpDate;
 use std::alloc::{AllocError, Global};
 
 impl<H: Ends + Drop, J: Keeps + Drop> Service<H, J> {
-    ghost use Rattle.std.specs.Prelude.{◌≡◌, ◌⊎◌, ℕ, List, [], OnOk, option_map, string_bytes};
+    ghost use Rattle.std.specs.Prelude.{◌≡◌, ◌⊎◌, ℕ, List, [], None, OnOk, option_map, string_bytes};
+    ghost use Rattle.std.specs.Option.{option_copied};
     ghost use Rattle.http_server.specs.declared.response.Response.{Response as Sent};
     ghost use Rattle.http_server.specs.Response.{IsBlank, IsResponse};
     ghost use Rattle.dav_server.specs.Head.{IsHead};
@@ -174,30 +176,35 @@ impl<H: Ends + Drop, J: Keeps + Drop> Service<H, J> {
         if !self.admission.has_leave(request.principal, &set.head)? {
             return Ok(());
         }
-        self.set_time_by(&set, request, response)
+        let principal = text_of(self.alloc, request.principal)?;
+        self.set_time_by(request.moment, principal.as_deref(), &set, response)
     }
 
-    // Runs the request by which the time of a file is set that another one brought, and says so where it was.
+    // Runs the request by which the time of a file is set that another one of this principal brought, and says so where it was.
     fn set_time_by<'r>(
         &mut self,
+        moment: u64,
+        principal: Option<&'r str>,
         set: &'r TimeRequest,
-        request: &Request<'r>,
         response: &mut Response,
     ) -> Result<(), Stop>
-        ensures set { OnOk result ((sent : Sent)
-            × IsRun H.answers (held_of self.old)
-            (belonging_to request.now set.now.head.items set.now.body) sent (held_of self.new)
-            × IsAccepted sent.status response.old response.new) }
+        ensures set { OnOk result ((sent : Sent) × IsRun H.answers (held_of self.old) (record {
+          moment = moment;
+          principal = option_copied principal.entry;
+          token = None;
+          head = set.now.head.items;
+          body = set.now.body;
+        }) sent (held_of self.new) × IsAccepted sent.status response.old response.new) }
         ensures same { OnOk result (admission_of self.new ≡ admission_of self.old) }
         ensures logins { OnOk result (logins_of self.new ≡ logins_of self.old) }
         ensures goes_on { OnOk result
             (GoesOn H.answers J.is_clean J.kept (kept_of self.old) (kept_of self.new)) }
     {
-        let (moment, principal) = (request.moment, request.principal);
         let own = request_of(moment, principal, None, &set.head, &set.body);
         let mut sent = Response::new(self.alloc);
         self.change(&own, &mut sent)?;
-        Ok(add_accepted(sent.status, response)?)
+        add_accepted(sent.status, response)?;
+        Ok(())
     }
 
     // Runs a request that the server doesn't refuse.
@@ -282,6 +289,16 @@ fn request_in<'r>(moment: u64, admitted: &'r Admitted, body: &'r Bytes) -> Reque
     )
 }
 
+// An owned copy of a text, if there is one.
+fn text_of(alloc: Global, text: Option<&str>) -> Result<Option<String>, AllocError>
+    ensures { IfOk result (λ copy. option_map string_bytes copy ≡ option_copied text.entry) }
+{
+    match text {
+        Some(text) => Ok(Some(String::from_str(alloc, text)?)),
+        None => Ok(None),
+    }
+}
+
 // A text, if there is one. A text that a function gives is known to be UTF-8, as a request wants it.
 fn text_if_any(text: Option<&str>) -> Option<&str>
     ensures { option_copied result ≡ option_copied text.entry }
@@ -319,7 +336,10 @@ pub(crate) fn request_of<'r>(
 
 // Adds that a time is kept, where the request that set it was answered with this status.
 fn add_accepted(status: StatusCode, response: &mut Response) -> Result<(), AllocError>
-    ensures { OnOk result (IsAccepted status response.old response.new) }
+    ensures fields { OnOk result (fields_of response.new ≡ fields_of response.old
+        ++ (if status == 207 then (codes "x-oc-mtime", codes "accepted") ∷ [] else [])) }
+    ensures status { OnOk result (response.new.status ≡ response.old.status) }
+    ensures body { OnOk result (response.new.body ≡ response.old.body) }
 {
     if status != StatusCode::MULTI_STATUS {
         return Ok(());
