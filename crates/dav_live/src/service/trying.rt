@@ -19,6 +19,7 @@ impl<H: Ends + Drop, J: Keeps + Drop> Service<H, J> {
     ghost use Rattle.http_server.specs.Response.{IsBlank};
     ghost use Rattle.dav_access.specs.Logins.{after_right, after_wrong, wait_of};
     ghost use Rattle.dav_server.specs.Head.{IsHead};
+    ghost use Rattle.dav_wire.specs.declared.answer.Rejection.TheVariants.{Unauthorized};
     ghost use Rattle.dav_live.specs.Runs.{GoesOn};
     ghost use Rattle.dav_live.specs.Serving.{IsReplyTo, StaysAll, admission_of, held_of, kept_of, logins_of};
     ghost use Rattle.dav_live.specs.Waiting.{IsAfterVerdict, seconds_of};
@@ -112,13 +113,33 @@ impl<H: Ends + Drop, J: Keeps + Drop> Service<H, J> {
         match self.wait_for(&login) {
             0 => {
                 let verdict = self.judge_rest(head)?;
-                if verdict == Some(Rejection::Unauthorized) {
-                    self.see_wrong(&login)?;
-                }
-                Ok(verdict)
+                self.see_verdict(&login, verdict)
             }
             1 => self.reject(Rejection::Unavailable, login.name.as_str(), head),
             _ => self.reject(Rejection::TooManyRequests, login.name.as_str(), head),
+        }
+    }
+
+    // Notes that a login was wrong, where its request isn't taken for that.
+    fn see_verdict(
+        &mut self,
+        login: &Credentials,
+        verdict: Option<Rejection>,
+    ) -> Result<Option<Rejection>, Stop>
+        ensures is { IfOk result (λ v. v ≡ verdict) }
+        ensures wrong { OnOk result (verdict ≡ Some Unauthorized → logins_of self.new
+            ≡ after_wrong (logins_of self.old) (string_bytes login.now.name)
+            (string_bytes login.now.password) (seconds_of (admission_of self.old))) }
+        ensures other { OnOk result (verdict ≢ Some Unauthorized
+            → logins_of self.new ≡ logins_of self.old) }
+        ensures same { StaysAll self.old self.new }
+    {
+        match verdict {
+            Some(Rejection::Unauthorized) => {
+                self.see_wrong(login)?;
+                Ok(verdict)
+            }
+            _ => Ok(verdict),
         }
     }
 

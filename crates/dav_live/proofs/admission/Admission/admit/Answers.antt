@@ -1,6 +1,6 @@
 use Rattle.std.proofs.Common.{◌≡◌, ◌∙◌, sym, ap, subst, rules, string_bytes, option_map}
-use Rattle.dav_live.specs.Admission.{AdmissionView, HasManySlashes, IsOutside, outside, too_long}
-use Rattle.dav_live.specs.declared.admission.Reason.TheVariants.{Outside, TooLong}
+use Rattle.dav_live.specs.Admission.{AdmissionView, HasManySlashes, IsClosedTo, IsOutside, closed, outside, too_long}
+use Rattle.dav_live.specs.declared.admission.Reason.TheVariants.{Outside, ReadOnly, TooLong}
 use Rattle.dav_live.proofs.AdmissionLemmas.{turned_away}
 use Rattle.dav_live.proofs.admission.Admission.admit.Goals as goal
 
@@ -19,3 +19,13 @@ returns-then-branch c =
     let is : IsOutside c.as_str.result.now c.args.head.now = search rules in
     turned_away c.args.self.now c.args.tokens c.args.head.now c.args.body.now c.refused_of-then-branch.result r.0 Outside _ r.1 r.2 r.3
     (outside (option_map string_bytes c.args.principal) c.requires.let_in few (subst (λ p. IsOutside p c.args.head.now) prefix is))
+
+pub returns-then-is_closed_to : goal.returns-then-is_closed_to
+returns-then-is_closed_to c =
+    let r = c.refused_of-then-is_closed_to.ensures in
+    let few : ¬ HasManySlashes c.args.head.now = search rules in
+    let prefix : c.as_str.result.now ≡ c.args.self.now.prefix = c.as_str.ensures.value ∙ ap (λ (a : AdmissionView). a.prefix) c.self.view_is in
+    let inside : ¬ IsOutside c.as_str.result.now c.args.head.now = search rules in
+    let is : IsClosedTo c.args.self.now c.args.head.now = search rules in
+    turned_away c.args.self.now c.args.tokens c.args.head.now c.args.body.now c.refused_of-then-is_closed_to.result r.0 ReadOnly _ r.1 r.2 r.3
+    (closed (option_map string_bytes c.args.principal) c.requires.let_in few (subst (λ p. ¬ IsOutside p c.args.head.now) prefix inside) is)
