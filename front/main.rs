@@ -11,26 +11,28 @@
 //! of access again, and so does a change of their files.
 #![deny(unsafe_code)]
 
+mod clock;
+mod connection;
 mod lists;
 mod room;
 mod signals;
+mod slots;
 
+use clock::{Clock, date};
+use connection::{Connection, GONE, OPENED, Order, Times};
 use lists::Lists;
 use signals::{HANG_UP, INTERRUPT, Signals, TERMINATE};
-use std::fs::{self, File};
+use slots::{Slots, origin_of};
+use std::fs::File;
 use std::io::{self, BufReader, ErrorKind, Read, Write};
-use std::net::{Shutdown, TcpListener, TcpStream};
+use std::net::TcpListener;
 use std::os::unix::process::CommandExt;
 use std::process::{Child, ChildStdin, Command, Stdio, exit};
-use std::sync::atomic::{AtomicU64, AtomicUsize, Ordering};
-use std::sync::mpsc::{Receiver, Sender, channel};
-use std::sync::{Arc, Condvar, Mutex};
+use std::sync::atomic::{AtomicUsize, Ordering};
+use std::sync::{Arc, Mutex};
 use std::thread;
-use std::time::{Duration, Instant, SystemTime, UNIX_EPOCH};
+use std::time::{Duration, Instant};
 
-const SLOTS: usize = 512;
-const PIECE: usize = 65_536;
-const LINGER: Duration = Duration::from_secs(2);
 const SECOND: Duration = Duration::from_secs(1);
 const MOMENT: Duration = Duration::from_millis(20);
 
@@ -40,19 +42,11 @@ const FREED: Duration = Duration::from_secs(3);
 /// So long the last replies have to be written, once the core has ended.
 const LAST: Duration = Duration::from_secs(2);
 
-/// What the core may order to be done after the bytes were written; 0: say that they were.
-const READ: u8 = 1;
-const CLOSE: u8 = 2;
-
 /// The status of a core that ran out of memory.
 const NO_MEMORY: i32 = 3;
 
-/// What is reported.
+/// What is reported besides connections.
 const HELLO: u8 = 0;
-const OPENED: u8 = 1;
-const GOT: u8 = 2;
-const SENT: u8 = 3;
-const GONE: u8 = 4;
 const TICK: u8 = 5;
 const USERS: u8 = 6;
 const ROOM: u8 = 7;
@@ -68,7 +62,9 @@ const HEAD: usize = 25;
 
 /// What the front is told when it begins.
 struct Settings {
-    idle: Duration,
+    times: Times,
+    /// The most connections of one address.
+    per_address: usize,
     /// The folder of the users and the rules, which are reported where they change.
     lists: Option<String>,
     /// The folder on whose disk the state is, of which the room is reported.
@@ -80,68 +76,23 @@ struct Settings {
     arguments: Vec<String>,
 }
 
-struct Order {
-    next: u8,
-    bytes: Vec<u8>,
-}
-
 struct Front {
     /// The core's input; none once it has ended.
     core: Mutex<Option<ChildStdin>>,
-    slots: Mutex<Vec<Option<Sender<Order>>>>,
-    freed: Condvar,
+    slots: Slots,
     /// How many orders were handed out whose bytes aren't written yet.
     writing: AtomicUsize,
-    idle: Duration,
+    times: Times,
     clock: Clock,
 }
 
-/// A clock that goes on steadily, also while the machine sleeps, and is never set.
-struct Clock {
-    begun: Instant,
-    /// How long the machine was up then; none where it doesn't tell.
-    up: Option<Duration>,
-    /// So many milliseconds it slept since then, in which `Instant` stands still.
-    asleep: AtomicU64,
-}
-
-impl Clock {
-    fn new() -> Clock {
-        Clock { begun: Instant::now(), up: uptime(), asleep: AtomicU64::new(0) }
-    }
-
-    /// The seconds since it began.
-    fn seconds(&self) -> u64 {
-        (self.begun.elapsed() + Duration::from_millis(self.asleep.load(Ordering::SeqCst))).as_secs()
-    }
-
-    /// Sees how long the machine slept.
-    fn look(&self) {
-        if let (Some(then), Some(now)) = (self.up, uptime()) {
-            let asleep = now.saturating_sub(then).saturating_sub(self.begun.elapsed());
-            self.asleep.fetch_max(asleep.as_millis() as u64, Ordering::SeqCst);
-        }
-    }
-}
-
-/// How long the machine is up, sleep included.
-fn uptime() -> Option<Duration> {
-    let text = fs::read_to_string("/proc/uptime").ok()?;
-    Duration::try_from_secs_f64(text.split(' ').next()?.parse().ok()?).ok()
-}
-
-fn date() -> u64 {
-    SystemTime::now().duration_since(UNIX_EPOCH).map_or(0, |time| time.as_secs())
-}
-
 impl Front {
-    fn new(core: ChildStdin, idle: Duration) -> Front {
+    fn new(core: ChildStdin, settings: &Settings) -> Front {
         Front {
             core: Mutex::new(Some(core)),
-            slots: Mutex::new((0..SLOTS).map(|_| None).collect()),
-            freed: Condvar::new(),
+            slots: Slots::new(settings.per_address),
             writing: AtomicUsize::new(0),
-            idle,
+            times: settings.times,
             clock: Clock::new(),
         }
     }
@@ -171,71 +122,6 @@ impl Front {
     fn end(&self) {
         *self.core.lock().unwrap() = None;
     }
-
-    /// Waits for a free slot; until then peers wait in the kernel's queue.
-    fn take_slot(&self) -> (usize, Receiver<Order>) {
-        let mut slots = self.slots.lock().unwrap();
-        loop {
-            if let Some(slot) = slots.iter().position(|place| place.is_none()) {
-                let (sender, receiver) = channel();
-                slots[slot] = Some(sender);
-                return (slot, receiver);
-            }
-            slots = self.freed.wait(slots).unwrap();
-        }
-    }
-
-    fn free(&self, slot: usize) {
-        self.slots.lock().unwrap()[slot] = None;
-        self.freed.notify_one();
-    }
-
-    fn serve(&self, slot: usize, orders: Receiver<Order>, stream: TcpStream) -> io::Result<()> {
-        let _ = stream.set_nodelay(true);
-        let _ = stream.set_read_timeout(Some(self.idle));
-        let _ = stream.set_write_timeout(Some(self.idle));
-        let peer = stream.peer_addr().map_or(String::new(), |address| address.ip().to_string());
-        self.report(slot, OPENED, peer.as_bytes())?;
-        let mut frame = vec![0u8; HEAD + PIECE];
-        while let Ok(order) = orders.recv() {
-            if order.next == CLOSE {
-                self.free(slot); // the core has let it go
-                let _ = (&stream).write_all(&order.bytes);
-                self.writing.fetch_sub(1, Ordering::SeqCst);
-                linger(&stream);
-                return Ok(());
-            }
-            let written = (&stream).write_all(&order.bytes);
-            self.writing.fetch_sub(1, Ordering::SeqCst);
-            let done = match written {
-                Ok(()) if order.next == READ => (&stream).read(&mut frame[HEAD..]).map(|count| (GOT, count)),
-                Ok(()) => Ok((SENT, 0)),
-                Err(error) => Err(error),
-            };
-            match done {
-                Ok((kind, count)) => self.report_frame(slot, kind, &mut frame[..HEAD + count])?,
-                Err(_) => {
-                    self.report(slot, GONE, &[])?;
-                    self.free(slot);
-                    return Ok(());
-                }
-            }
-        }
-        Ok(())
-    }
-}
-
-/// Lets the peer read what was sent, though it may still be sending.
-fn linger(stream: &TcpStream) {
-    let _ = stream.shutdown(Shutdown::Write);
-    let _ = stream.set_read_timeout(Some(LINGER));
-    let mut piece = [0u8; 4096];
-    for _ in 0..4096 {
-        match (&*stream).read(&mut piece) {
-            Ok(0) | Err(_) => return,
-            Ok(_) => {}
-        }
-    }
 }
 
 /// Hands the core's orders to the connections, until the core ends.
@@ -248,12 +134,9 @@ fn hand_out(front: &Front, core: impl Read) -> io::Result<()> {
         let len = u32::from_le_bytes([head[5], head[6], head[7], head[8]]) as usize;
         let mut bytes = vec![0u8; len];
         core.read_exact(&mut bytes)?;
-        let slots = front.slots.lock().unwrap();
-        if let Some(Some(sender)) = slots.get(slot) {
-            front.writing.fetch_add(1, Ordering::SeqCst);
-            if sender.send(Order { next: head[4], bytes }).is_err() {
-                front.writing.fetch_sub(1, Ordering::SeqCst);
-            }
+        front.writing.fetch_add(1, Ordering::SeqCst);
+        if !front.slots.hand(slot, Order { next: head[4], bytes }) {
+            front.writing.fetch_sub(1, Ordering::SeqCst);
         }
     }
 }
@@ -267,7 +150,7 @@ fn main() {
     command.args(&settings.arguments).stdin(Stdio::piped()).stdout(Stdio::piped());
     command.process_group(0); // Ctrl-C at a terminal is for the front alone
     let mut child = command.spawn().unwrap_or_else(|error| fail(&settings.program, error));
-    let front = Arc::new(Front::new(child.stdin.take().unwrap(), settings.idle));
+    let front = Arc::new(Front::new(child.stdin.take().unwrap(), &settings));
     let process = child.id();
     let handing = front.clone();
     thread::spawn(move || end_with_core(&handing, child));
@@ -305,7 +188,8 @@ fn main() {
 fn read_settings() -> Settings {
     let mut words = std::env::args().skip(1);
     let mut settings = Settings {
-        idle: Duration::from_secs(75),
+        times: Times { idle: Duration::from_secs(75), piece: Duration::from_secs(60) },
+        per_address: 128,
         lists: None,
         folder: None,
         ready: None,
@@ -317,10 +201,9 @@ fn read_settings() -> Settings {
     while word.starts_with("--") {
         let value = words.next().unwrap_or_else(|| usage());
         match word.as_str() {
-            "--idle" => match value.parse() {
-                Ok(seconds) if seconds > 0 => settings.idle = Duration::from_secs(seconds),
-                _ => usage(),
-            },
+            "--idle" => settings.times.idle = Duration::from_secs(number(&value)),
+            "--piece-time" => settings.times.piece = Duration::from_secs(number(&value)),
+            "--per-address" => settings.per_address = number(&value) as usize,
             "--lists" => settings.lists = Some(value),
             "--room" => settings.folder = Some(value),
             "--ready" => settings.ready = Some(value),
@@ -332,6 +215,11 @@ fn read_settings() -> Settings {
     settings.program = words.next().unwrap_or_else(|| usage());
     settings.arguments = words.collect();
     settings
+}
+
+/// The number of a text, which isn't 0.
+fn number(text: &str) -> u64 {
+    text.parse().ok().filter(|number| *number > 0).unwrap_or_else(|| usage())
 }
 
 /// Reports how many bytes the core can still store in a folder.
@@ -355,13 +243,15 @@ fn bind(address: &str) -> TcpListener {
 
 /// Waits until the core answers, as a connection that comes and goes: then it has read its state. False where it has ended.
 fn wait_for_core(front: &Front) -> bool {
-    let (slot, orders) = front.take_slot();
+    let Some((slot, orders)) = front.slots.take(None, None) else {
+        return false;
+    };
     let answers = front.report(slot, OPENED, &[]).is_ok() && orders.recv().is_ok();
     if answers {
         front.writing.fetch_sub(1, Ordering::SeqCst);
         let _ = front.report(slot, GONE, &[]);
     }
-    front.free(slot);
+    front.slots.free(slot);
     answers
 }
 
@@ -372,18 +262,21 @@ fn say_ready(text: Option<&str>, listener: &TcpListener) {
     }
 }
 
-/// Takes connections, for ever.
+/// Takes connections, for ever. One whose address has too many is closed at once.
 fn accept(front: &Arc<Front>, listener: &TcpListener) {
-    for stream in listener.incoming() {
-        let Ok(stream) = stream else {
+    loop {
+        let Ok((stream, peer)) = listener.accept() else {
             thread::sleep(MOMENT);
             continue;
         };
-        let (slot, orders) = front.take_slot();
+        let stream = Arc::new(stream);
+        let Some((slot, orders)) = front.slots.take(Some(stream.clone()), Some(origin_of(peer.ip()))) else {
+            continue;
+        };
         let serving = front.clone();
-        let begun = thread::Builder::new().spawn(move || serving.serve(slot, orders, stream));
+        let begun = thread::Builder::new().spawn(move || Connection::new(&serving, slot, &stream).serve(&orders));
         if begun.is_err() {
-            front.free(slot); // the core doesn't know of it
+            front.slots.free(slot); // the core doesn't know of it
         }
     }
 }
@@ -450,7 +343,7 @@ fn begin_again() -> ! {
 }
 
 fn usage() -> ! {
-    eprintln!("usage: front [--idle SECONDS] [--lists FOLDER] [--room FOLDER] [--ready TEXT] ADDRESS:PORT PROGRAM [ARGUMENT..]");
+    eprintln!("usage: front [--idle SECONDS] [--piece-time SECONDS] [--per-address COUNT] [--lists FOLDER] [--room FOLDER] [--ready TEXT] ADDRESS:PORT PROGRAM [ARGUMENT..]");
     exit(64)
 }
 

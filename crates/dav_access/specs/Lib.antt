@@ -5,6 +5,7 @@ pub mod Basic
 pub mod Users
 pub mod Reading
 pub mod Principals
+pub mod Logins
 pub mod Rules
 pub mod RulesText
 pub mod RulesFaults

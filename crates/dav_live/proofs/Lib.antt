@@ -10,6 +10,7 @@ pub mod LifePromises
 pub mod FirstDays
 pub mod Restarts
 pub mod AdmissionLemmas
+mod LoginLemmas
 mod ClockLemmas
 mod GrantedLemmas
 mod ListsLemmas

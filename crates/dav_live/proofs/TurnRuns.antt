@@ -9,7 +9,7 @@ use Rattle.dav_turns.proofs.Carried.{Carries}
 use Rattle.dav_wire.specs.declared.answer.Asked.{Asked}
 use Rattle.dav_wire.specs.declared.answer.Rejection.{Rejection}
 use Rattle.dav_live.specs.Runs.{RunGoesOn}
-use Rattle.dav_live.specs.Serving.{IsCommitted, IsGreeted, IsListed, IsMarked, IsPassed, Serves, StaysAll, anew, kept_of, refused}
+use Rattle.dav_live.specs.Serving.{IsCommitted, IsGreeted, IsListed, IsJudged, IsMarked, IsPassed, IsPlaced, Serves, anew, kept_of, refused}
 use Rattle.dav_live.specs.declared.service.Service.{Service}
 use Rattle.dav_live.proofs.RunLemmas.{commits_runs, goes_on_runs, kept_runs, runs_then, same_runs}
 
@@ -20,22 +20,22 @@ module _ {H J : Type 0} (answers : H → RequestView → Response → H → Type
 
   -- what a live server does carries the run of its records on
   pub run_carries : (refuses : Option Rules → H → Request → RequestView → ℕ → Type 0) (ends : H → ℕ → Option (List ℕ) → Type 0)
-      → Carries (keeping (λ (old : Service H J) (head : List ℕ) (verdict : Option Rejection) (new : Service H J). StaysAll old new)
+      → Carries (keeping (λ (old : Service H J) (head : List ℕ) (verdict : Option Rejection) (new : Service H J). IsJudged old head verdict new)
       (λ (old : Service H J) (asked : Asked) (response : Response) (new : Service H J). Serves answers refuses is_clean kept old asked response new)
       (λ (old : Service H J) (bytes : List ℕ) (new : Service H J). IsGreeted old bytes new)
       (λ (old : Service H J) (bytes : List ℕ) (new : Service H J). IsListed old bytes new)
-      (λ (old : Service H J) (address : List ℕ) (new : Service H J). StaysAll old new)
+      (λ (old : Service H J) (address : List ℕ) (new : Service H J). IsPlaced old address new)
       (λ (old : Service H J) (seconds date : ℕ) (new : Service H J). IsPassed answers is_clean kept ends old seconds date new)
       (λ (old new : Service H J). IsMarked saved is_saveable is_clean kept old new) (λ (old new : Service H J). IsCommitted is_clean kept old new))
       (λ old new. RunGoesOn answers saved is_saveable is_clean kept (kept_of old) (kept_of new))
   run_carries refuses ends = record {
     same = λ s. same_runs answers saved is_saveable is_clean kept (kept_of s) (kept_of s) refl;
     joined = λ a b c. runs_then answers saved is_saveable is_clean kept (kept_of a) (kept_of b) (kept_of c);
-    judges = λ a head verdict b stays. same_runs answers saved is_saveable is_clean kept (kept_of a) (kept_of b) stays.1;
+    judges = λ a head verdict b judged. same_runs answers saved is_saveable is_clean kept (kept_of a) (kept_of b) judged.same.1;
     answers = λ a asked response b serves. goes_on_runs answers saved is_saveable is_clean kept (kept_of a) (kept_of b) serves.goes_on;
     greeted = λ a bytes b greets. same_runs answers saved is_saveable is_clean kept (kept_of a) (kept_of b) greets.1;
     listed = λ a bytes b lists. listed_runs a b bytes lists;
-    placed = λ a address b stays. same_runs answers saved is_saveable is_clean kept (kept_of a) (kept_of b) stays.1;
+    placed = λ a address b stays. same_runs answers saved is_saveable is_clean kept (kept_of a) (kept_of b) stays.0.1;
     passed = λ a seconds date b passes. goes_on_runs answers saved is_saveable is_clean kept (kept_of a) (kept_of b) passes.goes_on;
     marked = λ a b marks. kept_runs answers saved is_saveable is_clean kept (kept_of a) (kept_of b) marks.keeps;
     kept = λ a b commits. commits_runs answers saved is_saveable is_clean kept (kept_of a) (kept_of b) commits.commits;

@@ -1,37 +1,36 @@
 -- Which requests a live server runs, and what it runs of them.
-use Rattle.std.specs.Prelude.{◌≡◌, ◌≢◌, ◌<◌, ◌⊎◌, ◌↔◌, ◌==◌, ◌&&◌, ℕ, Bool, true, false, List, [], ◌∷◌, ◌++◌, Option, Some, None, Ok, Err, IfSome, IsTrue, if◌then◌else◌, codes, count_by, drop, length, min, option_map, string_bytes, take, unwrap_or}
+use Rattle.std.specs.Prelude.{◌≡◌, ◌≢◌, ◌<◌, ◌⊎◌, ◌↔◌, ◌==◌, ◌&&◌, ℕ, Bool, true, false, List, [], ◌∷◌, ◌++◌, Option, Some, None, Err, IfSome, IsTrue, if◌then◌else◌, codes, count_by, drop, length, min, option_map, string_bytes, take, unwrap_or}
 use Rattle.std.specs.Option.{is_none, is_some}
 use Rattle.dav_access.specs.Rules.{Rules}
 use Rattle.dav_confined.specs.Leave.{Permits}
 use Rattle.dav_core.specs.World.{last_moment}
 use Rattle.dav_core.specs.declared.errors.DavError.TheVariants.{IllegalPath}
-use Rattle.dav_core.specs.declared.method.DavMethod.{DavMethod}
 use Rattle.dav_core.specs.declared.method.DavMethod.TheVariants.{Get}
 use Rattle.dav_access.specs.Principals.{IsPrincipal, ShowsNoUser}
 use Rattle.dav_http.specs.Kept.{IsKeptOf, Says}
 use Rattle.dav_kept.specs.Records.{RequestView}
 use Rattle.dav_server.specs.Head.{Request}
-use Rattle.dav_server.specs.Method.{GivesServed}
-use Rattle.dav_server.specs.TagLaws.{is_safe}
 use Rattle.dav_server.specs.Target.{TargetNames}
 use Rattle.dav_live.specs.Clock.{moment_after}
 use Rattle.dav_live.specs.Hosts.{TellsFor, value_of}
 use Rattle.dav_live.specs.Numbered.{HasNumber}
+use Rattle.dav_live.specs.Rejections.{IsSafe}
 use Rattle.dav_live.specs.Tokens.{token_text}
 use Rattle.dav_live.specs.declared.admission.Admitted.{Admitted}
 use Rattle.dav_live.specs.declared.admission.Decision.{Decision}
 use Rattle.dav_live.specs.declared.admission.Decision.TheVariants.{Refused, Run}
 use Rattle.dav_live.specs.declared.admission.Reason.{Reason}
-use Rattle.dav_live.specs.declared.admission.Reason.TheVariants.{Misdirected, Unauthorized, Forbidden, TooLong, Outside}
+use Rattle.dav_live.specs.declared.admission.Reason.TheVariants.{Misdirected, Unauthorized, Forbidden, TooLong, Outside, ReadOnly}
 
 -- What a server goes by: the prefix of its paths, the names of its host, the most seconds for which a lock is granted, whether a PROPFIND
--- without a Depth is left to the machine, its users, if it has a list of them, the rules of access, if it has any, the moment, in seconds
+-- without a Depth is left to the machine, whether requests may only read, its users, if it has a list of them, the rules of access, if it has any, the moment, in seconds
 -- since 1970, the seconds that the front's steady clock told last, if it did, and the random bytes of its tokens.
 pub record AdmissionView : Type 0 where
   pub prefix : List ℕ
   pub hosts : List (List ℕ)
   pub lock_time : ℕ
   pub strict : Bool
+  pub read_only : Bool
   pub users : Option (List (List ℕ × List ℕ))
   pub rules : Option Rules
   pub moment : ℕ
@@ -77,9 +76,13 @@ abbrev pub reason_for : Option (List ℕ) → Reason
 reason_for None = Unauthorized
 reason_for (Some user) = Forbidden
 
+-- a request may do more than read, and none may
+abbrev pub IsClosedTo : AdmissionView → Request → Type 0
+IsClosedTo a r = (a.read_only ≡ true) × ¬ IsSafe r.method
+
 -- A request isn't run, for this reason: it is for another host (RFC 9110, section 7.4); no user is shown, but this name (RFC 9110,
--- section 15.5.2); its paths have too many slashes; its target isn't below the prefix; or what would be run of it has no leave (RFC 9110,
--- section 15.5.4). With it the user.
+-- section 15.5.2); its paths have too many slashes; its target isn't below the prefix; requests may only read; or what would be run of it has
+-- no leave (RFC 9110, section 15.5.4). With it the user.
 pub data IsTurnedAway (a : AdmissionView) (r : Request) : Reason → List ℕ → Type 0 where
   misdirected : TellsFor a.hosts (value_of (codes "host") r) false → IsTurnedAway a r Misdirected []
   unknown : (shown : List ℕ) → TellsFor a.hosts (value_of (codes "host") r) true
@@ -87,7 +90,9 @@ pub data IsTurnedAway (a : AdmissionView) (r : Request) : Reason → List ℕ �
   too_long : (user : Option (List ℕ)) → IsLetIn a r user → HasManySlashes r → IsTurnedAway a r TooLong (unwrap_or user [])
   outside : (user : Option (List ℕ)) → IsLetIn a r user → ¬ HasManySlashes r → IsOutside a.prefix r
       → IsTurnedAway a r Outside (unwrap_or user [])
-  without_leave : (user : Option (List ℕ)) (head : List ℕ) → IsLetIn a r user → ¬ HasManySlashes r → ¬ IsOutside a.prefix r
+  closed : (user : Option (List ℕ)) → IsLetIn a r user → ¬ HasManySlashes r → ¬ IsOutside a.prefix r → IsClosedTo a r
+      → IsTurnedAway a r ReadOnly (unwrap_or user [])
+  without_leave : (user : Option (List ℕ)) (head : List ℕ) → IsLetIn a r user → ¬ HasManySlashes r → ¬ IsOutside a.prefix r → ¬ IsClosedTo a r
       → IsHeadKept a r head → ¬ HasLeaveIn a user head → IsTurnedAway a r (reason_for user) (unwrap_or user [])
 
 -- The token for a lock that a request may create: a LOCK with a body gets that of the next number, and no other request gets one (RFC
@@ -102,6 +107,7 @@ pub record IsRequestOf (a : AdmissionView) (tokens : ℕ) (came : Request) (body
   pub let_in : IsLetIn a came q.principal
   pub few : ¬ HasManySlashes came
   pub inside : ¬ IsOutside a.prefix came
+  pub open_to : ¬ IsClosedTo a came
   pub kept : Request
   pub is_kept : IsKeptOf a.lock_time a.strict came kept
   pub says : Says q.head kept
@@ -122,7 +128,7 @@ request_in a admitted body = record {
 
 -- this says whether a request only reads (RFC 9110, section 9.2.1)
 abbrev pub TellsSafe : Request → Bool → Type 0
-TellsSafe r is = IsTrue is ↔ ((m : DavMethod) × GivesServed r.method (Ok m) × (is_safe m ≡ true))
+TellsSafe r is = IsTrue is ↔ IsSafe r.method
 
 -- what becomes of a request with this body, where tokens of so many numbers were given
 abbrev pub IsDecision : AdmissionView → ℕ → Request → List ℕ → Decision → Type 0
@@ -136,6 +142,7 @@ status_of Misdirected = 421
 status_of Unauthorized = 401
 status_of Forbidden = 403
 status_of TooLong = 414
+status_of ReadOnly = 403
 status_of Outside = 404
 
 -- the fields of the response: 401 has the challenge (RFC 9110, section 11.6.1; RFC 7617, section 2.1)

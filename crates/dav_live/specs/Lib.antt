@@ -4,6 +4,7 @@ pub mod Hosts
 pub mod Lists
 pub mod Rejections
 pub mod Admission
+pub mod Waiting
 pub mod Runs
 pub mod Serving
 pub mod Answers

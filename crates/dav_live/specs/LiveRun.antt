@@ -13,7 +13,7 @@ use Rattle.dav_turns.specs.Turns.{Keeping, keeping}
 use Rattle.dav_wire.specs.declared.answer.Asked.{Asked}
 use Rattle.dav_wire.specs.declared.answer.Rejection.{Rejection}
 use Rattle.dav_live.specs.Answers.{IsAnswer, IsNextEnd, IsNotRun}
-use Rattle.dav_live.specs.Serving.{IsCommitted, IsGreeted, IsListed, IsMarked, IsPassed, Serves, StaysAll, kept_of}
+use Rattle.dav_live.specs.Serving.{IsCommitted, IsGreeted, IsListed, IsJudged, IsMarked, IsPassed, IsPlaced, Serves, kept_of}
 use Rattle.dav_live.specs.declared.live.Live.{Live}
 use Rattle.dav_live.specs.declared.service.Service.{Service}
 
@@ -32,11 +32,11 @@ kept_in l = kept_of (service_of l)
 -- what it does as a keeper: it answers as the machine does, and keeps that in its journal
 abbrev pub doing : {D : Type 0} → Ghosts D → Keeping (Service Server (Pair D))
 doing {D} g =
-    keeping (λ (old : Service Server (Pair D)) (head : List ℕ) (verdict : Option Rejection) (new : Service Server (Pair D)). StaysAll old new)
+    keeping (λ (old : Service Server (Pair D)) (head : List ℕ) (verdict : Option Rejection) (new : Service Server (Pair D)). IsJudged old head verdict new)
     (λ (old : Service Server (Pair D)) (asked : Asked) (sent : Response) (new : Service Server (Pair D)). Serves IsAnswer IsNotRun (λ j. IsCleanPair g j) (λ j blocks. IsKeptPair g j blocks) old asked sent new)
     (λ (old : Service Server (Pair D)) (bytes : List ℕ) (new : Service Server (Pair D)). IsGreeted old bytes new)
     (λ (old : Service Server (Pair D)) (bytes : List ℕ) (new : Service Server (Pair D)). IsListed old bytes new)
-    (λ (old : Service Server (Pair D)) (address : List ℕ) (new : Service Server (Pair D)). StaysAll old new)
+    (λ (old : Service Server (Pair D)) (address : List ℕ) (new : Service Server (Pair D)). IsPlaced old address new)
     (λ (old : Service Server (Pair D)) (seconds date : ℕ) (new : Service Server (Pair D)). IsPassed IsAnswer (λ j. IsCleanPair g j) (λ j blocks. IsKeptPair g j blocks) (λ (s : Server) (now : ℕ) (head : Option (List ℕ)). IsNextEnd s.state.locks now head) old seconds date new)
     (λ (old new : Service Server (Pair D)). IsMarked saved_bytes IsSaveable (λ j. IsCleanPair g j) (λ j blocks. IsKeptPair g j blocks) old new)
     (λ (old new : Service Server (Pair D)). IsCommitted (λ j. IsCleanPair g j) (λ j blocks. IsKeptPair g j blocks) old new)

@@ -4,6 +4,7 @@ use Rattle.http_server.specs.declared.response.Response.{Response}
 use Rattle.http_server.specs.Response.{IsResponse, fields_of}
 use Rattle.httpdate.specs.Date.{date_text, unix_secs}
 use Rattle.httpdate.specs.declared.date.HttpDate.{HttpDate}
+use Rattle.dav_access.specs.Logins.{LoginsView}
 use Rattle.dav_access.specs.Rules.{Rules}
 use Rattle.dav_access.specs.RulesText.{UserList}
 use Rattle.dav_http.specs.Uploaded.{BringsTime, time_body, time_head}
@@ -13,16 +14,22 @@ use Rattle.dav_kept.specs.declared.handler.Effect.{Effect}
 use Rattle.dav_kept.specs.declared.kept.Kept.{Kept}
 use Rattle.dav_server.specs.Head.{IsHead, Request}
 use Rattle.dav_wire.specs.declared.answer.Asked.{Asked}
+use Rattle.dav_wire.specs.declared.answer.Rejection.{Rejection}
 use Rattle.dav_live.specs.Admission.{AdmissionView, HasLeaveIn, IsRequestOf, IsTurnedAway, after_clocks, refusal_fields, status_of, with_random}
 use Rattle.dav_live.specs.Lists.{IsFaulty, Reports}
 use Rattle.dav_live.specs.Runs.{Commits, GoesOn, Saves, StaysKept}
 use Rattle.dav_live.specs.declared.admission.Reason.{Reason}
 use Rattle.dav_live.specs.declared.lists.ListsError.{ListsError}
+use Rattle.dav_live.specs.Waiting.{HasToWait, IsAfterLogin, IsAfterVerdict, MayBeHeard, wait_fields}
 use Rattle.dav_live.specs.declared.service.Service.{Service}
 
 -- what a service goes by
 abbrev pub admission_of : {H J : Type 0} → Service H J → AdmissionView
 admission_of s = s.admission
+
+-- what it knows of logins
+abbrev pub logins_of : {H J : Type 0} → Service H J → LoginsView
+logins_of s = s.logins
 
 -- its server, with the journal
 abbrev pub kept_of : {H J : Type 0} → Service H J → Kept H J
@@ -81,6 +88,17 @@ pub data IsResponseTo {S : Type 0} (answers : S → RequestView → Response →
   run : (r : Request) (q : RequestView) → IsHead asked.head r → IsRequestOf a old.tokens r asked.body q → ((status : ℕ) → ¬ refuses a.rules old.state r q status)
       → IsRunWhole answers a old q own new → IsResponseTo answers refuses a old asked own new
 
+-- The response to a request, but for its date, what is held then, and what is known of logins: 429 to who has to wait (RFC 6585,
+-- section 4), and else the response to it.
+pub data IsReplyTo {S : Type 0} (answers : S → RequestView → Response → S → Type 0) (refuses : Option Rules → S → Request → RequestView → ℕ → Type 0)
+    (a : AdmissionView) (l : LoginsView) (old : Holding S) (asked : Asked) (own : Response) (new : Holding S) (after : LoginsView) : Type 0 where
+  told_to_wait : (r : Request) (seconds : ℕ) → IsHead asked.head r → HasToWait a l r seconds → IsResponse 429 (wait_fields seconds) [] own
+      → new ≡ old → after ≡ l → IsReplyTo answers refuses a l old asked own new after
+  heard : (r : Request) → IsHead asked.head r → MayBeHeard a l r → IsResponseTo answers refuses a old asked own new
+      → IsAfterLogin a l r own.status after → IsReplyTo answers refuses a l old asked own new after
+  headless : ((r : Request) → ¬ IsHead asked.head r) → IsResponseTo answers refuses a old asked own new → after ≡ l
+      → IsReplyTo answers refuses a l old asked own new after
+
 -- the response as it is sent: with the date of a moment (RFC 9110, section 6.6.1)
 pub record IsDated (moment : ℕ) (own sent : Response) : Type 0 where
   pub date : HttpDate
@@ -93,7 +111,7 @@ pub record IsDated (moment : ℕ) (own sent : Response) : Type 0 where
 pub record Serves {H J : Type 0} (answers : H → RequestView → Response → H → Type 0) (refuses : Option Rules → H → Request → RequestView → ℕ → Type 0) (is_clean : J → Type 0)
     (kept : J → List (List ℕ) → Type 0) (old : Service H J) (asked : Asked) (sent : Response) (new : Service H J) : Type 0 where
   pub own : Response
-  pub responds : IsResponseTo answers refuses (admission_of old) (held_of old) asked own (held_of new)
+  pub replies : IsReplyTo answers refuses (admission_of old) (logins_of old) (held_of old) asked own (held_of new) (logins_of new)
   pub dated : IsDated (admission_of old).moment own sent
   pub same : admission_of new ≡ admission_of old
   pub goes_on : GoesOn answers is_clean kept (kept_of old) (kept_of new)
@@ -103,6 +121,16 @@ pub record Serves {H J : Type 0} (answers : H → RequestView → Response → H
 -- nothing changes but what is to be told to who runs the server
 abbrev pub StaysAll : {H J : Type 0} → Service H J → Service H J → Type 0
 StaysAll old new = (admission_of new ≡ admission_of old) × (kept_of new ≡ kept_of old)
+
+-- A request isn't taken, by its head alone, or may go on: what the service goes by stays, and a login is noted that was wrong.
+pub record IsJudged {H J : Type 0} (old : Service H J) (head : List ℕ) (verdict : Option Rejection) (new : Service H J) : Type 0 where
+  pub same : StaysAll old new
+  pub login : ((verdict ≡ None) × (logins_of new ≡ logins_of old))
+      ⊎ ((r : Request) × IsHead head r × IsAfterVerdict (admission_of old) (logins_of old) r verdict (logins_of new))
+
+-- the requests that follow come from this address
+abbrev pub IsPlaced : {H J : Type 0} → Service H J → List ℕ → Service H J → Type 0
+IsPlaced old address new = StaysAll old new × (logins_of new ≡ record (logins_of old) { address = address })
 
 -- the front began, with these random bytes
 abbrev pub IsGreeted : {H J : Type 0} → Service H J → List ℕ → Service H J → Type 0
@@ -159,4 +187,5 @@ pub record IsMarked {H J : Type 0} (saved : H → List ℕ) (is_saveable : H →
 -- all that was answered is kept
 pub record IsCommitted {H J : Type 0} (is_clean : J → Type 0) (kept : J → List (List ℕ) → Type 0) (old new : Service H J) : Type 0 where
   pub same : admission_of new ≡ admission_of old
+  pub logins : logins_of new ≡ logins_of old
   pub commits : Commits is_clean kept (kept_of old) (kept_of new)

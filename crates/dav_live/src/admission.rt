@@ -5,6 +5,8 @@ ghost use Rattle.dav_core.specs.declared.errors.DavError.TheVariants.{IllegalPat
 ghost use Rattle.dav_live.specs.Admission.{HasManySlashes, IsOutside, IsTokenFor, reason_for, refusal_fields, slashes_in, status_of};
 ghost use Rattle.dav_live.specs.declared.admission.RefusedRequest.{RefusedRequest as RefusedValue};
 
+mod login;
+
 use crate::clock::moment_after;
 use crate::hosts::is_for;
 use crate::lists::{Lists, ListsError, texts_in};
@@ -42,6 +44,8 @@ pub enum Reason {
     TooLong,
     /// Its target isn't at or below the prefix (404).
     Outside,
+    /// It may do more than read, and none may (403).
+    ReadOnly,
 }
 
 impl Reason {
@@ -52,7 +56,7 @@ impl Reason {
         match self {
             Reason::Misdirected => StatusCode::MISDIRECTED_REQUEST,
             Reason::Unauthorized => StatusCode::UNAUTHORIZED,
-            Reason::Forbidden => StatusCode::FORBIDDEN,
+            Reason::Forbidden | Reason::ReadOnly => StatusCode::FORBIDDEN,
             Reason::TooLong => StatusCode::URI_TOO_LONG,
             Reason::Outside => StatusCode::NOT_FOUND,
         }
@@ -114,6 +118,7 @@ impl Model for Admission {
       hosts = map string_bytes a.settings.hosts.items;
       lock_time = a.settings.lock_time;
       strict = a.settings.strict;
+      read_only = a.settings.read_only;
       users = a.users;
       rules = a.rules;
       moment = a.moment;
@@ -197,7 +202,7 @@ impl Admission {
     ghost use Rattle.dav_access.specs.RulesText.{UserList};
     ghost use Rattle.dav_access.specs.Users.{IsName};
     ghost use Rattle.dav_core.specs.World.{last_moment};
-    ghost use Rattle.dav_live.specs.Admission.{HasManySlashes, HasLeaveIn, IsDecision, IsHeadKept, IsLetIn, IsMadeBy, IsOutside, IsRequestOf, TellsSafe, after_clocks, request_in, users_for, with_random};
+    ghost use Rattle.dav_live.specs.Admission.{HasManySlashes, HasLeaveIn, IsDecision, IsClosedTo, IsHeadKept, IsLetIn, IsMadeBy, IsOutside, IsRequestOf, TellsSafe, after_clocks, request_in, users_for, with_random};
     ghost use Rattle.dav_live.specs.Hosts.{value_of};
     ghost use Rattle.dav_live.specs.Lists.{IsFaulty, Reports};
 
@@ -208,6 +213,7 @@ impl Admission {
           hosts = map string_bytes settings.hosts.items;
           lock_time = settings.lock_time;
           strict = settings.strict;
+          read_only = settings.read_only;
           users = lists.users;
           rules = lists.rules;
           moment = min moment last_moment;
@@ -300,6 +306,13 @@ impl Admission {
         }
     }
 
+    /// Whether requests may only read, and this one may do more.
+    pub fn is_closed_to(&self, head: &Head<'_>) -> bool
+        ensures { IsTrue result ↔ IsClosedTo self.now head.now }
+    {
+        self.settings.read_only && !is_safe(head.method())
+    }
+
     // What becomes of a request that is let in, of this user.
     fn admit(
         &self,
@@ -317,6 +330,9 @@ impl Admission {
         }
         if is_outside(self.alloc, head, self.settings.prefix.as_str())? {
             return Ok(refused_of(self.alloc, Reason::Outside, principal));
+        }
+        if self.is_closed_to(head) {
+            return Ok(refused_of(self.alloc, Reason::ReadOnly, principal));
         }
         let kept = self.kept_of(head)?;
         if !self.has_leave(principal.as_deref(), &kept)? {
@@ -337,6 +353,7 @@ impl Admission {
         requires let_in { IsLetIn self.now head.now (option_map string_bytes principal) }
         requires few { ¬ HasManySlashes head.now }
         requires inside { ¬ IsOutside self.now.prefix head.now }
+        requires open_to { ¬ IsClosedTo self.now head.now }
         requires kept { IsHeadKept self.now head.now kept.items }
         requires leave { HasLeaveIn self.now (option_map string_bytes principal) kept.items }
         ensures request { IfOk result (λ admitted. IsRequestOf self.now tokens head.now body.now

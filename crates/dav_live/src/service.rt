@@ -1,6 +1,7 @@
 //! What answers the requests of all connections: it asks the rooms in their order.
 mod answering;
 mod hearing;
+mod trying;
 
 use crate::admission::Admission;
 use crate::ends::Ends;
@@ -9,6 +10,7 @@ use crate::lists::Lists;
 use crate::live::Watch;
 use crate::settings::Settings;
 use crate::told::Told;
+use dav_access::Logins;
 use dav_kept::{Keeps, Kept, KeptError};
 use dav_wire::Stop;
 use std::alloc::Global;
@@ -18,6 +20,7 @@ use std::alloc::Global;
 pub struct Service<H, J> {
     alloc: Global,
     admission: Admission,
+    logins: Logins,
     kept: Kept<H, J>,
     told: Told,
     most_body: u64,
@@ -33,8 +36,9 @@ impl<H: Ends + Drop, J: Keeps + Drop> Service<H, J> {
     ghost use Rattle.dav_kept.specs.Kept.{Snapshot, answer_step, held_by, is_new, journal_of};
     ghost use Rattle.dav_kept.specs.Life.{IsRunSince};
     ghost use Rattle.dav_live.specs.Runs.{IsOneRun, IsOpened, Saves, StaysKept};
+    ghost use Rattle.dav_access.specs.Logins.{no_logins};
     ghost use Rattle.dav_live.specs.Numbered.{AreNumbered};
-    ghost use Rattle.dav_live.specs.Serving.{StaysAll, admission_of, held_of, kept_of};
+    ghost use Rattle.dav_live.specs.Serving.{StaysAll, admission_of, held_of, kept_of, logins_of};
 
     /// A service of this handler, as the requests of the journal leave it.
     pub fn open(
@@ -50,11 +54,13 @@ impl<H: Ends + Drop, J: Keeps + Drop> Service<H, J> {
         ensures clean { IfOk result (λ s. J.is_clean (journal_of (kept_of s))
             → J.is_clean journal) }
         ensures empty { IfOk result (λ s. (held_of s).batch ≡ []) }
+        ensures logins { IfOk result (λ s. logins_of s ≡ no_logins) }
         ensures admission { IfOk result (λ s. admission_of s ≡ record {
           prefix = string_bytes settings.prefix;
           hosts = map string_bytes settings.hosts.items;
           lock_time = settings.lock_time;
           strict = settings.strict;
+          read_only = settings.read_only;
           users = lists.users;
           rules = lists.rules;
           moment = min (held_of s).latest last_moment;
@@ -69,6 +75,7 @@ impl<H: Ends + Drop, J: Keeps + Drop> Service<H, J> {
         Ok(Service {
             alloc,
             admission: Admission::new(alloc, settings, lists, kept.latest()),
+            logins: Logins::new(alloc),
             kept,
             told,
             most_body,
@@ -183,7 +190,8 @@ impl<H: Ends + Drop, J: Keeps + Drop> Service<H, J> {
 
     /// Tells what there is to be told.
     pub fn tell<L: Watch>(&mut self, watch: &mut L)
-        ensures { StaysAll self.old self.new }
+        ensures same { StaysAll self.old self.new }
+        ensures logins { logins_of self.new ≡ logins_of self.old }
     {
         if !self.told.lines().is_empty() {
             watch.tell(self.told.lines());

@@ -7,6 +7,8 @@ pub struct Settings {
     pub prefix: String,
     /// The names of its host, besides those of the machine itself.
     pub hosts: Vec<String>,
+    /// Whether requests may only read.
+    pub read_only: bool,
     /// The most seconds for which a lock is granted.
     pub lock_time: u32,
     /// Whether a PROPFIND without a Depth is left to the machine, which tells of a folder's members alone, and of a file nothing;

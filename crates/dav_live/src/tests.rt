@@ -1,5 +1,6 @@
 //! Who may come in and do what, heads, tokens, lines of the log and pages, as rows of text.
 mod access;
+mod closed;
 mod heads;
 mod pages;
 mod words;

@@ -30,7 +30,7 @@ pub struct Options {
 #[derive(Debug, Drop, Error)]
 pub enum OptionsError {
     /// There is no folder among them.
-    #[error("usage: dav-serve FOLDER [--prefix /PATH] [--host NAME].. [--lock-time SECONDS] [--body BYTES] [--waiting BYTES] [--snapshot-past BYTES] [--strict] [--log]")]
+    #[error("usage: dav-serve FOLDER [--prefix /PATH] [--host NAME].. [--lock-time SECONDS] [--body BYTES] [--waiting BYTES] [--snapshot-past BYTES] [--strict] [--read-only] [--log]")]
     NoFolder,
     /// No option has this name.
     #[error("'{0}' isn't an option")]
@@ -62,8 +62,8 @@ impl<T: Drop> From<AllocFailed<T>> for OptionsError {
 }
 
 impl Options {
-    /// The options of arguments: a folder, and then options, each with its value but for `--log` and `--strict`. Of an option that
-    /// comes twice the last one counts, but for `--host`.
+    /// The options of arguments: a folder, and then options, each with its value but for `--log`, `--strict` and `--read-only`. Of
+    /// an option that comes twice the last one counts, but for `--host`.
     pub fn read(alloc: Global, arguments: &mut Args) -> Result<Options, OptionsError> {
         let Some(folder) = arguments.next() else {
             return Err(OptionsError::NoFolder);
@@ -73,6 +73,7 @@ impl Options {
             hosts: Vec::new(alloc),
             lock_time: LOCK_TIME,
             strict: false,
+            read_only: false,
             most_body: BODY,
             most_waiting: 0,
             short_journal: SHORT_JOURNAL,
@@ -85,6 +86,7 @@ impl Options {
             match name.as_str() {
                 "--log" => settings.logs = true,
                 "--strict" => settings.strict = true,
+                "--read-only" => settings.read_only = true,
                 _ => set(&mut settings, name, arguments.next())?,
             }
         }

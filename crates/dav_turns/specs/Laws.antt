@@ -1,12 +1,12 @@
 -- What the contracts of turns mean for the client of a slot, over any number of turns.
-use Rattle.std.specs.Prelude.{◌≡◌, ℕ, ◌≤◌, ◌&&◌, ◌==◌, Bool, List, [], ◌∷◌, ◌++◌, map, length, Option, Some, None, IsFalse}
+use Rattle.std.specs.Prelude.{◌≡◌, ℕ, ◌≤◌, ◌⊎◌, ◌&&◌, ◌==◌, Bool, List, [], ◌∷◌, ◌++◌, map, length, Option, Some, None, IsFalse}
 use Rattle.std.specs.List.{All, before_first, filter, filter_map, flat_map}
 use Rattle.dav_wire.specs.declared.state.Config.{Config}
 use Rattle.dav_wire.specs.Exchange.{Call, Judgement}
 use Rattle.dav_wire.specs.declared.state.State.TheVariants.{Open}
 use Rattle.dav_wire.specs.History.{History, IsServed, AreAllCalled}
 use Rattle.dav_turns.specs.declared.config.TurnsConfig.{TurnsConfig}
-use Rattle.dav_turns.specs.declared.frames.TheConstants.{OPENED, GOT, READ}
+use Rattle.dav_turns.specs.declared.frames.TheConstants.{OPENED, GOT, READ, READ_HEAD, READ_BODY}
 use Rattle.dav_turns.specs.Connections.{ConnectionView, Slots, TurnsView}
 use Rattle.dav_turns.specs.Frames.{Order, ReportView, BeginsWith, IsPart, IsTooLong, ReadsReports}
 use Rattle.dav_turns.specs.Turns.{Keeping, Server, server, Heard, GoesOn, IsIn, Turn, held_by, new_turns}
@@ -119,12 +119,16 @@ pub record IsAtRest (connection : ConnectionView) : Type 0 where
   pub sent : connection.history.pending ≡ []
   pub called : AreAllCalled connection.config.limits connection.history
 
+-- the front is to read on, for whatever
+abbrev pub IsRead : ℕ → Type 0
+IsRead next = (next ≡ READ) ⊎ ((next ≡ READ_HEAD) ⊎ (next ≡ READ_BODY))
+
 -- The front is to read on a slot only where the connection in it is at rest: so no client waits for
 -- an answer that no report will bring.
 abbrev pub ReadsOnlyAtRest : {S : Type 0} → Keeping S → Type 0
 ReadsOnlyAtRest {S} k =
     (room slot : ℕ) (bytes : Option (List ℕ)) (old new : Server S) (order : Order)
-    → GoesOn k room slot bytes old new order → order.next ≡ READ
+    → GoesOn k room slot bytes old new order → IsRead order.next
     → (connection : ConnectionView) × IsIn new.slots slot connection × IsAtRest connection
 
 -- ---- bodies

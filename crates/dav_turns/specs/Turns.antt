@@ -11,7 +11,7 @@ use Rattle.dav_wire.specs.declared.state.Reason.TheVariants.{Refused}
 use Rattle.dav_wire.specs.declared.state.Refusal.TheVariants.{NoRoom}
 use Rattle.dav_wire.specs.History.{Acts, History, IsServed, IsQuiet, Rests, held, new_history, after_taken, after_sent}
 use Rattle.dav_turns.specs.declared.config.TurnsConfig.{TurnsConfig}
-use Rattle.dav_turns.specs.declared.frames.TheConstants.{HELLO, OPENED, GOT, SENT, GONE, TICK, USERS, ROOM, TELL, READ, CLOSE}
+use Rattle.dav_turns.specs.declared.frames.TheConstants.{HELLO, OPENED, GOT, SENT, GONE, TICK, USERS, ROOM, TELL, READ, CLOSE, READ_HEAD, READ_BODY}
 use Rattle.dav_turns.specs.Connections.{ConnectionView, Slots, TurnsView}
 use Rattle.dav_turns.specs.Frames.{Order, ReportView, BeginsWith, IsPart, IsTooLong, ReadsReports, order_bytes}
 
@@ -68,18 +68,25 @@ pub record Advances {S : Type 0} (k : Keeping S) (room : ℕ) (bytes : Option (L
   pub told : (told : ℕ) → (after_hearing bytes old.history).state ≡ Open
       → new.history.state ≡ Closing (Refused (NoRoom told)) → told ≡ room
 
+-- What an open connection is read for: the rest of a body, where the head of a request was judged
+-- that isn't handed over; the rest of a head, where bytes came that aren't read; and else a request.
+abbrev pub reading : History → ℕ
+reading h =
+    if nat_lt (length h.calls) (length h.judgements) then READ_BODY
+    else if nat_lt 0 (length h.unread) then READ_HEAD else READ
+
 -- whether to read on, or to close
-abbrev pub next_in : State → ℕ
-next_in Open = READ
-next_in (Closing why) = CLOSE
-next_in Aborted = CLOSE
+abbrev pub next_in : History → State → ℕ
+next_in h Open = reading h
+next_in h (Closing why) = CLOSE
+next_in h Aborted = CLOSE
 
 -- What is to be done after the front of what waits is sent: to tell, where more waits, or where so
 -- much waited that requests may have been left unread for it; and else to read or to close.
 abbrev pub next_after : Config → History → History → ℕ
 next_after config mid new =
     if nat_lt config.max_pending (length mid.pending) || nat_lt 0 (length new.pending)
-    then TELL else next_in new.state
+    then TELL else next_in new new.state
 
 -- The text is the front of what waits, and is dropped there; some of it, where some waits.
 pub record HandsOut (mid new : ConnectionView) (next : ℕ) (text : List ℕ) : Type 0 where

@@ -3,10 +3,11 @@ ghost use Rattle.std.specs.Prelude.{◌≡◌, ◌++◌, ◌≤◌, List, ℕ, I
 ghost use Rattle.std.specs.Option.{option_copied};
 ghost use Rattle.dav_wire.specs.History.{after_sent, held};
 ghost use Rattle.dav_wire.specs.Peer.{config_of, history};
+ghost use Rattle.dav_wire.specs.declared.state.State.TheVariants.{Open};
 ghost use Rattle.dav_turns.specs.Frames.{order_bytes};
-ghost use Rattle.dav_turns.specs.Turns.{keeping, Advances, HandsOut, next_after, new_connection};
+ghost use Rattle.dav_turns.specs.Turns.{keeping, Advances, HandsOut, next_after, new_connection, reading};
 
-use crate::frames::{CLOSE, READ, TELL, add_order};
+use crate::frames::{CLOSE, READ, READ_BODY, READ_HEAD, TELL, add_order};
 use crate::keeper::Keeper;
 use dav_wire::{Config, Peer, Stop};
 use std::alloc::{AllocError, Global};
@@ -86,6 +87,20 @@ impl Connection {
     }
 }
 
+// What an open connection is read for.
+fn reading(peer: &Peer) -> u8
+    requires { (history peer.now).state ≡ Open }
+    ensures { result ≡ reading (history peer.now) }
+{
+    if peer.is_in_body() {
+        READ_BODY
+    } else if peer.has_unread() {
+        READ_HEAD
+    } else {
+        READ
+    }
+}
+
 // What the front is to do after so many of the bytes that wait are sent.
 fn next_after(peer: &Peer, count: usize) -> u8
     requires { count ≤ length (history peer.now).pending }
@@ -95,7 +110,7 @@ fn next_after(peer: &Peer, count: usize) -> u8
     if peer.is_full() || count < peer.waiting() {
         TELL
     } else if peer.is_open() {
-        READ
+        reading(peer)
     } else {
         CLOSE
     }

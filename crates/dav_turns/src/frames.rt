@@ -24,10 +24,14 @@ pub const ROOM: u8 = 7;
 
 /// Report when the bytes are sent.
 pub const TELL: u8 = 0;
-/// Send the bytes, then read once.
+/// Send the bytes, then read once: nothing of a request came.
 pub const READ: u8 = 1;
 /// Send the bytes, then close.
 pub const CLOSE: u8 = 2;
+/// Send the bytes, then read once: a part of a head came.
+pub const READ_HEAD: u8 = 3;
+/// Send the bytes, then read once: a head came, and its body isn't whole.
+pub const READ_BODY: u8 = 4;
 
 /// The bytes of a report before those that came.
 pub const HEAD: usize = 25;

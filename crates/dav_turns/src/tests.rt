@@ -1,7 +1,8 @@
 //! Reports as rows of bytes, and turns as rows of text: reports, what the keeper was told, and the
 //! orders.
 use crate::frames::{
-    CLOSE, GONE, GOT, HELLO, Next, OPENED, READ, ROOM, Report, SENT, TELL, TICK, USERS, next_in,
+    CLOSE, GONE, GOT, HELLO, Next, OPENED, READ, READ_BODY, READ_HEAD, ROOM, Report, SENT, TELL,
+    TICK, USERS, next_in,
 };
 use crate::{Keeper, TurnError, Turns, TurnsConfig};
 use dav_wire::{Answerer, Asked, Config, Rejection, Stop};
@@ -50,7 +51,7 @@ opened 2 5 ::1 -> at 5, commit -> 2 read
 opened 0 5 a ; opened 511 6 b -> at 5, at 6, commit -> 0 read  ; 511 read 
 opened 2 5 a ; got 2 6 GET /x HTTP/1.1^Host: h^^ -> at 5, at 6, from a, GET /x, commit -> 2 read  ; 2 read HTTP/1.1 200 OK^content-length: 7^^GET /x|
 opened 2 5 a ; opened 3 5 b ; got 3 6 GET /x HTTP/1.1^Host: h^^ ; got 2 6 GET /y HTTP/1.1^Host: h^^ -> at 5, at 5, at 6, from b, GET /x, at 6, from a, GET /y, commit -> 2 read  ; 3 read  ; 3 read HTTP/1.1 200 OK^content-length: 7^^GET /x| ; 2 read HTTP/1.1 200 OK^content-length: 7^^GET /y|
-opened 2 5 a ; opened 3 5 b ; got 2 6 PUT /x HTTP/1.1^Host: h^ ; got 3 6 GET /y HTTP/1.1^ ; got 2 7 Content-Length: 2^^hi ; got 3 7 Host: h^^ -> at 5, at 5, at 6, from a, at 6, from b, at 7, from a, PUT /x, at 7, from b, GET /y, commit -> 2 read  ; 3 read  ; 2 read  ; 3 read  ; 2 read HTTP/1.1 200 OK^content-length: 9^^PUT /x|hi ; 3 read HTTP/1.1 200 OK^content-length: 7^^GET /y|
+opened 2 5 a ; opened 3 5 b ; got 2 6 PUT /x HTTP/1.1^Host: h^ ; got 3 6 GET /y HTTP/1.1^ ; got 2 7 Content-Length: 2^^hi ; got 3 7 Host: h^^ -> at 5, at 5, at 6, from a, at 6, from b, at 7, from a, PUT /x, at 7, from b, GET /y, commit -> 2 read  ; 3 read  ; 2 head  ; 3 head  ; 2 read HTTP/1.1 200 OK^content-length: 9^^PUT /x|hi ; 3 read HTTP/1.1 200 OK^content-length: 7^^GET /y|
 
 # what is sent before more is read
 opened 2 5 a ; got 2 6 PUT /x HTTP/1.1^Host: h^Content-Length: 20^^01234567890123456789GET /y HTTP/1.1^Host: h^^ -> at 5, at 6, from a, PUT /x, commit -> 2 read  ; 2 tell HTTP/1.1 200 OK^content-length: 27^^PUT /x|01234567890123456789
@@ -61,22 +62,22 @@ opened 2 5 a ; got 2 6 PUT /no HTTP/1.1^Host: h^Content-Length: 20^^ -> at 5, at
 opened 2 5 a ; got 2 6 PUT /x HTTP/1.1^Host: h^Content-Length: 2^^hiPUT /no HTTP/1.1^Host: h^^GET /y HTTP/1.1^Host: h^^ -> at 5, at 6, from a, PUT /x, no PUT /no, commit -> 2 read  ; 2 tell HTTP/1.1 200 OK^content-length: 9^^PUT /x|hiHTTP/1.1 403 Forbidden^connection: close^content-length: 0^^
 
 # bodies that wait: at most 48 bytes of all (RFC 9110, sections 10.2.3 and 15.6.4)
-opened 2 5 a ; opened 3 5 b ; got 2 6 PUT /x HTTP/1.1^Host: h^Content-Length: 30^^ ; got 3 6 PUT /y HTTP/1.1^Host: h^Content-Length: 18^^ ; got 2 7 012345678901234567890123456789 ; got 3 7 012345678901234567 -> at 5, at 5, at 6, from a, at 6, from b, at 7, from a, PUT /x, at 7, from b, PUT /y, commit -> 2 read  ; 3 read  ; 2 read  ; 3 read  ; 2 tell HTTP/1.1 200 OK^content-length: 37^^PUT /x|012345678901234567890123456789 ; 3 read HTTP/1.1 200 OK^content-length: 25^^PUT /y|012345678901234567
-opened 2 5 a ; opened 3 5 b ; got 2 6 PUT /x HTTP/1.1^Host: h^Content-Length: 30^^ ; got 3 6 PUT /y HTTP/1.1^Host: h^Content-Length: 19^^ -> at 5, at 5, at 6, from a, at 6, from b, commit -> 2 read  ; 3 read  ; 2 read  ; 3 tell HTTP/1.1 503 Service Unavailable^retry-after: 1^connection: close^content-length: 0^^
-opened 2 5 a ; opened 3 5 b ; got 2 6 PUT /x HTTP/1.1^Host: h^Content-Length: 30^^ ; got 3 6 PUT /y HTTP/1.1^Host: h^Expect: 100-continue^Content-Length: 19^^ -> at 5, at 5, at 6, from a, at 6, from b, commit -> 2 read  ; 3 read  ; 2 read  ; 3 tell HTTP/1.1 503 Service Unavailable^retry-after: 1^connection: close^content-length: 0^^
-opened 2 5 a ; opened 3 5 b ; got 2 6 PUT /x HTTP/1.1^Host: h^Content-Length: 30^^ ; got 3 6 PUT /y HTTP/1.1^Host: h^Content-Length: 18^^ ; opened 4 6 c ; got 4 6 GET /z HTTP/1.1^Host: h^^ -> at 5, at 5, at 6, from a, at 6, from b, at 6, at 6, from c, GET /z, commit -> 2 read  ; 3 read  ; 2 read  ; 3 read  ; 4 read  ; 4 read HTTP/1.1 200 OK^content-length: 7^^GET /z|
-opened 2 5 a ; opened 3 5 b ; got 2 6 PUT /x HTTP/1.1^Host: h^Content-Length: 20^^01234567890123456789 ; got 3 6 PUT /y HTTP/1.1^Host: h^Content-Length: 32^^ -> at 5, at 5, at 6, from a, PUT /x, at 6, from b, commit -> 2 read  ; 3 read  ; 2 tell HTTP/1.1 200 OK^content-length: 27^^PUT /x|01234567890123456789 ; 3 read 
-opened 2 5 a ; got 2 6 PUT /x HTTP/1.1^Host: h^Content-Length: 30^^ ; gone 2 6 ; opened 3 5 b ; got 3 6 PUT /y HTTP/1.1^Host: h^Content-Length: 32^^ -> at 5, at 6, from a, at 6, at 5, at 6, from b, commit -> 2 read  ; 2 read  ; 3 read  ; 3 read 
-opened 2 5 a ; got 2 6 PUT /no HTTP/1.1^Host: h^Content-Length: 30^^ ; opened 3 5 b ; got 3 6 PUT /y HTTP/1.1^Host: h^Content-Length: 32^^ -> at 5, at 6, from a, no PUT /no, at 5, at 6, from b, commit -> 2 read  ; 2 close HTTP/1.1 403 Forbidden^connection: close^content-length: 0^^ ; 3 read  ; 3 read 
-opened 2 5 a ; opened 3 5 b ; got 2 6 PUT /x HTTP/1.1^Host: h^Content-Length: 30^^ ; got 3 6 PUT /y HTTP/1.1^Host: h^Transfer-Encoding: chunked^^a^0123456789^ ; got 3 7 8^01234567^0^^ -> at 5, at 5, at 6, from a, at 6, from b, at 7, from b, PUT /y, commit -> 2 read  ; 3 read  ; 2 read  ; 3 read  ; 3 read HTTP/1.1 200 OK^content-length: 25^^PUT /y|012345678901234567
-opened 2 5 a ; opened 3 5 b ; got 2 6 PUT /x HTTP/1.1^Host: h^Content-Length: 30^^ ; got 3 6 PUT /y HTTP/1.1^Host: h^Transfer-Encoding: chunked^^a^0123456789^ ; got 3 7 9^012345678^0^^ -> at 5, at 5, at 6, from a, at 6, from b, at 7, from b, commit -> 2 read  ; 3 read  ; 2 read  ; 3 read  ; 3 tell HTTP/1.1 503 Service Unavailable^retry-after: 1^connection: close^content-length: 0^^
-opened 2 5 a ; opened 3 5 b ; got 3 6 PUT /y HTTP/1.1^Host: h^Transfer-Encoding: chunked^^14^01234567890123456789^ ; got 2 6 PUT /x HTTP/1.1^Host: h^Content-Length: 29^^ -> at 5, at 5, at 6, from b, at 6, from a, commit -> 2 read  ; 3 read  ; 3 read  ; 2 tell HTTP/1.1 503 Service Unavailable^retry-after: 1^connection: close^content-length: 0^^
+opened 2 5 a ; opened 3 5 b ; got 2 6 PUT /x HTTP/1.1^Host: h^Content-Length: 30^^ ; got 3 6 PUT /y HTTP/1.1^Host: h^Content-Length: 18^^ ; got 2 7 012345678901234567890123456789 ; got 3 7 012345678901234567 -> at 5, at 5, at 6, from a, at 6, from b, at 7, from a, PUT /x, at 7, from b, PUT /y, commit -> 2 read  ; 3 read  ; 2 body  ; 3 body  ; 2 tell HTTP/1.1 200 OK^content-length: 37^^PUT /x|012345678901234567890123456789 ; 3 read HTTP/1.1 200 OK^content-length: 25^^PUT /y|012345678901234567
+opened 2 5 a ; opened 3 5 b ; got 2 6 PUT /x HTTP/1.1^Host: h^Content-Length: 30^^ ; got 3 6 PUT /y HTTP/1.1^Host: h^Content-Length: 19^^ -> at 5, at 5, at 6, from a, at 6, from b, commit -> 2 read  ; 3 read  ; 2 body  ; 3 tell HTTP/1.1 503 Service Unavailable^retry-after: 1^connection: close^content-length: 0^^
+opened 2 5 a ; opened 3 5 b ; got 2 6 PUT /x HTTP/1.1^Host: h^Content-Length: 30^^ ; got 3 6 PUT /y HTTP/1.1^Host: h^Expect: 100-continue^Content-Length: 19^^ -> at 5, at 5, at 6, from a, at 6, from b, commit -> 2 read  ; 3 read  ; 2 body  ; 3 tell HTTP/1.1 503 Service Unavailable^retry-after: 1^connection: close^content-length: 0^^
+opened 2 5 a ; opened 3 5 b ; got 2 6 PUT /x HTTP/1.1^Host: h^Content-Length: 30^^ ; got 3 6 PUT /y HTTP/1.1^Host: h^Content-Length: 18^^ ; opened 4 6 c ; got 4 6 GET /z HTTP/1.1^Host: h^^ -> at 5, at 5, at 6, from a, at 6, from b, at 6, at 6, from c, GET /z, commit -> 2 read  ; 3 read  ; 2 body  ; 3 body  ; 4 read  ; 4 read HTTP/1.1 200 OK^content-length: 7^^GET /z|
+opened 2 5 a ; opened 3 5 b ; got 2 6 PUT /x HTTP/1.1^Host: h^Content-Length: 20^^01234567890123456789 ; got 3 6 PUT /y HTTP/1.1^Host: h^Content-Length: 32^^ -> at 5, at 5, at 6, from a, PUT /x, at 6, from b, commit -> 2 read  ; 3 read  ; 2 tell HTTP/1.1 200 OK^content-length: 27^^PUT /x|01234567890123456789 ; 3 body 
+opened 2 5 a ; got 2 6 PUT /x HTTP/1.1^Host: h^Content-Length: 30^^ ; gone 2 6 ; opened 3 5 b ; got 3 6 PUT /y HTTP/1.1^Host: h^Content-Length: 32^^ -> at 5, at 6, from a, at 6, at 5, at 6, from b, commit -> 2 read  ; 2 body  ; 3 read  ; 3 body 
+opened 2 5 a ; got 2 6 PUT /no HTTP/1.1^Host: h^Content-Length: 30^^ ; opened 3 5 b ; got 3 6 PUT /y HTTP/1.1^Host: h^Content-Length: 32^^ -> at 5, at 6, from a, no PUT /no, at 5, at 6, from b, commit -> 2 read  ; 2 close HTTP/1.1 403 Forbidden^connection: close^content-length: 0^^ ; 3 read  ; 3 body 
+opened 2 5 a ; opened 3 5 b ; got 2 6 PUT /x HTTP/1.1^Host: h^Content-Length: 30^^ ; got 3 6 PUT /y HTTP/1.1^Host: h^Transfer-Encoding: chunked^^a^0123456789^ ; got 3 7 8^01234567^0^^ -> at 5, at 5, at 6, from a, at 6, from b, at 7, from b, PUT /y, commit -> 2 read  ; 3 read  ; 2 body  ; 3 body  ; 3 read HTTP/1.1 200 OK^content-length: 25^^PUT /y|012345678901234567
+opened 2 5 a ; opened 3 5 b ; got 2 6 PUT /x HTTP/1.1^Host: h^Content-Length: 30^^ ; got 3 6 PUT /y HTTP/1.1^Host: h^Transfer-Encoding: chunked^^a^0123456789^ ; got 3 7 9^012345678^0^^ -> at 5, at 5, at 6, from a, at 6, from b, at 7, from b, commit -> 2 read  ; 3 read  ; 2 body  ; 3 body  ; 3 tell HTTP/1.1 503 Service Unavailable^retry-after: 1^connection: close^content-length: 0^^
+opened 2 5 a ; opened 3 5 b ; got 3 6 PUT /y HTTP/1.1^Host: h^Transfer-Encoding: chunked^^14^01234567890123456789^ ; got 2 6 PUT /x HTTP/1.1^Host: h^Content-Length: 29^^ -> at 5, at 5, at 6, from b, at 6, from a, commit -> 2 read  ; 3 read  ; 3 body  ; 2 tell HTTP/1.1 503 Service Unavailable^retry-after: 1^connection: close^content-length: 0^^
 
 # the end of a connection
 opened 2 5 a ; got 2 6 -> at 5, at 6, from a, commit -> 2 read  ; 2 close 
 opened 2 5 a ; got 2 6 GET /x HTTP/1.0^^ ; opened 2 7 b -> at 5, at 6, from a, GET /x, at 7, commit -> 2 read  ; 2 close HTTP/1.0 200 OK^content-length: 7^connection: close^^GET /x| ; 2 read 
 opened 2 5 a ; gone 2 6 ; opened 2 7 b ; got 2 8 GET /x HTTP/1.1^Host: h^^ -> at 5, at 6, at 7, at 8, from b, GET /x, commit -> 2 read  ; 2 read  ; 2 read HTTP/1.1 200 OK^content-length: 7^^GET /x|
-opened 2 5 a ; got 2 6 GET ; gone 2 6 ; opened 2 7 b ; got 2 8 GET /x HTTP/1.1^Host: h^^ -> at 5, at 6, from a, at 6, at 7, at 8, from b, GET /x, commit -> 2 read  ; 2 read  ; 2 read  ; 2 read HTTP/1.1 200 OK^content-length: 7^^GET /x|
+opened 2 5 a ; got 2 6 GET ; gone 2 6 ; opened 2 7 b ; got 2 8 GET /x HTTP/1.1^Host: h^^ -> at 5, at 6, from a, at 6, at 7, at 8, from b, GET /x, commit -> 2 read  ; 2 head  ; 2 read  ; 2 read HTTP/1.1 200 OK^content-length: 7^^GET /x|
 
 # what doesn't fit
 opened 512 5 a -> ! Pipe
@@ -297,6 +298,8 @@ fn orders_in(alloc: Global, text: &str) -> Result<Vec<u8>, AllocError> {
         let next = match words.next().unwrap_or("") {
             "tell" => TELL,
             "read" => READ,
+            "head" => READ_HEAD,
+            "body" => READ_BODY,
             _ => CLOSE,
         };
         let bytes = unescaped(alloc, words.next().unwrap_or(""))?;

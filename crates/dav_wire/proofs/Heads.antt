@@ -4,7 +4,7 @@ use Rattle.std.proofs.lemmas.List.{map_push}
 use Rattle.bytes.specs.declared.unique.BytesMut.{BytesMut}
 use Rattle.http_server.specs.Exchange.{continue_text}
 use Rattle.dav_wire.specs.declared.answer.Rejection.{Rejection}
-use Rattle.dav_wire.specs.declared.answer.Rejection.TheVariants.{Unauthorized, Forbidden, UnsupportedMediaType, Misdirected, NotImplemented, Unavailable}
+use Rattle.dav_wire.specs.declared.answer.Rejection.TheVariants.{Unauthorized, Forbidden, UnsupportedMediaType, Misdirected, TooManyRequests, NotImplemented, Unavailable}
 use Rattle.dav_wire.specs.declared.line.Line.{Line}
 use Rattle.dav_wire.specs.declared.state.Reason.TheVariants.{Rejected}
 use Rattle.dav_wire.specs.Exchange.{Judgement, passed}
@@ -20,6 +20,7 @@ known_rejection Unauthorized = refl
 known_rejection Forbidden = refl
 known_rejection UnsupportedMediaType = refl
 known_rejection Misdirected = refl
+known_rejection TooManyRequests = refl
 known_rejection NotImplemented = refl
 known_rejection Unavailable = refl
 

@@ -18,7 +18,7 @@ use Rattle.http1.specs.Text.{eq_ignore_case}
 use Rattle.http1.proofs.HeadRoundTrip.{response_reads_back}
 use Rattle.http1_typed.specs.Parts.{reason_of}
 use Rattle.dav_wire.specs.declared.answer.Rejection.{Rejection}
-use Rattle.dav_wire.specs.declared.answer.Rejection.TheVariants.{Unauthorized, Forbidden, UnsupportedMediaType, Misdirected, NotImplemented, Unavailable}
+use Rattle.dav_wire.specs.declared.answer.Rejection.TheVariants.{Unauthorized, Forbidden, UnsupportedMediaType, Misdirected, TooManyRequests, NotImplemented, Unavailable}
 use Rattle.dav_wire.specs.declared.state.Refusal.{Refusal}
 use Rattle.dav_wire.specs.declared.state.Refusal.TheVariants.{Truncated, Unreadable, BodyTooLong, UnknownCoding, NoRoom}
 use Rattle.dav_wire.specs.Laws.{IsLastResponse, RefusalsAreRead}
@@ -41,6 +41,10 @@ challenge_closes = refl
 retry_closes : (known_fields (closing_fields 503)).close ≡ true
 unfolding known_fields elements eq_ignore_case trim_ows
 retry_closes = refl
+
+later_closes : (known_fields (closing_fields 429)).close ≡ true
+unfolding known_fields elements eq_ignore_case trim_ows
+later_closes = refl
 
 read_back : (method : MethodKind) (status : ℕ) → head_refusal (is_status_line 1 status (reason_of status)) (closing_fields status) ≡ None
     → (known_fields (closing_fields status)).close ≡ true
@@ -167,6 +171,16 @@ read_421 : (method : MethodKind) → IsLastResponse method 421 (closing_text 421
 unfolding are_headers is_token_byte
 read_421 method = read_back method 421 refl closing_closes (framed_421 method)
 
+framed_429 : (method : MethodKind) → IsFramed method 429
+unfolding known_fields elements eq_ignore_case trim_ows
+framed_429 Method.Head = (Framed.NoBody, refl, λ _. (refl, refl, refl))
+framed_429 Method.Connect = (Framed.Length 0, refl, λ _. (refl, refl, refl))
+framed_429 Method.Other = (Framed.Length 0, refl, λ _. (refl, refl, refl))
+
+read_429 : (method : MethodKind) → IsLastResponse method 429 (closing_text 429)
+unfolding are_headers is_token_byte
+read_429 method = read_back method 429 refl later_closes (framed_429 method)
+
 framed_503 : (method : MethodKind) → IsFramed method 503
 unfolding known_fields elements eq_ignore_case trim_ows
 framed_503 Method.Head = (Framed.NoBody, refl, λ _. (refl, refl, refl))
@@ -215,6 +229,7 @@ rejection_is_read method Unauthorized = read_401 method
 rejection_is_read method Forbidden = read_403 method
 rejection_is_read method UnsupportedMediaType = read_415 method
 rejection_is_read method Misdirected = read_421 method
+rejection_is_read method TooManyRequests = read_429 method
 rejection_is_read method NotImplemented = read_501 method
 rejection_is_read method Unavailable = read_503 method
 

@@ -1,5 +1,7 @@
 -- What holds of a connection, and what each step does to that.
-use Rattle.std.proofs.Common.{◌≡◌, ◌≢◌, ℕ, Bool, false, List, [], ◌++◌, ◌∷◌, ◌⊎◌, length, max, Option, Some, None, true, cond, refl, sym, ap, ◌∙◌, subst, subst₂, arith, append_assoc, append-nil, take-append-drop, inl, inr, IsTrue, IsFalse}
+use Rattle.std.proofs.Common.{◌≡◌, ◌≢◌, ℕ, ◌+◌, nat_lt, Bool, false, List, [], ◌++◌, ◌∷◌, ◌⊎◌, length, max, Option, Some, None, true, cond, refl, sym, ap, ◌∙◌, subst, subst₂, arith, append_assoc, append-nil, length-append, take-append-drop, inl, inr, IsTrue, IsFalse}
+use Rattle.std.proofs.lemmas.Bool.{le-ltb, lt-ltb}
+use Rattle.std.proofs.lemmas.List.{length-map}
 use Rattle.std.proofs.Math.Seq.{take-nil, drop-nil}
 use Rattle.std.proofs.Math.Logic.{∥∥₁_prop, ∥∥₁_elim}
 use denote.Struct.Props.{props}
@@ -33,6 +35,20 @@ running p h = running_at h.state p h
 
 pub holds_open : (p : Place) (h : History) → IsRunning p h → HoldsAt h.state p h
 holds_open p h x = subst (λ s. HoldsAt s p h) (sym x.base.is_open) x
+
+-- one more than so many is more, and as many isn't
+counts : (within : Bool) (j : Judgement) (n m : ℕ) → m ≡ n + length (cond within (j ∷ []) []) → within ≡ nat_lt n m
+counts true j n m is = sym (lt-ltb n m (omega (arith, is)))
+counts false j n m is = sym (le-ltb n m (omega (arith, is)))
+
+-- in an open connection one head more was judged than requests were handed over exactly where a body is being read
+pub in_body : (l : Line) → l.state ≡ Open → Holds l → l.intake.is_within ≡ nat_lt (length (history_of l).calls) (length (history_of l).judgements)
+in_body l still holds =
+    let h = history_of l in
+    let p = place l.intake in
+    let judged = (running p h holds still).judged in
+    counts l.intake.is_within (l.intake.head.items, None) (length h.calls) (length h.judgements)
+    (ap length judged ∙ length-append (passed h.calls) (judged_at p) ∙ ap (λ n. n + length (judged_at p)) (length-map h.calls (λ (c : Call). (c.0.head, None))))
 
 -- the same exchanges in another history, with what its state says
 pub served_as : {config : Config} {h : History} (b : Base config h) (k : History) → k.received ≡ h.received

@@ -9,7 +9,7 @@ use Rattle.http1.specs.Head.{response_text}
 use Rattle.http1_typed.specs.Parts.{reason_of}
 use Rattle.http_server.specs.History.{HasNoMessage, NextIs, HasTooManyFields, HasUnknownCoding, IsReadError}
 use Rattle.dav_wire.specs.declared.answer.Rejection.{Rejection}
-use Rattle.dav_wire.specs.declared.answer.Rejection.TheVariants.{Unauthorized, Forbidden, UnsupportedMediaType, Misdirected, NotImplemented, Unavailable}
+use Rattle.dav_wire.specs.declared.answer.Rejection.TheVariants.{Unauthorized, Forbidden, UnsupportedMediaType, Misdirected, TooManyRequests, NotImplemented, Unavailable}
 use Rattle.dav_wire.specs.declared.state.Config.{Config}
 use Rattle.dav_wire.specs.declared.state.Refusal.{Refusal}
 use Rattle.dav_wire.specs.declared.state.Refusal.TheVariants.{Truncated, Unreadable, BodyTooLong, UnknownCoding, NoRoom}
@@ -24,20 +24,22 @@ refusal_status BodyTooLong = 413
 refusal_status UnknownCoding = 501
 refusal_status (NoRoom room) = 503
 
--- the status of a request that the answerer doesn't take (RFC 9110, sections 15.5 and 15.6)
+-- the status of a request that the answerer doesn't take (RFC 9110, sections 15.5 and 15.6; RFC 6585,
+-- section 4)
 abbrev pub rejection_status : Rejection → ℕ
 rejection_status Unauthorized = 401
 rejection_status Forbidden = 403
 rejection_status UnsupportedMediaType = 415
 rejection_status Misdirected = 421
+rejection_status TooManyRequests = 429
 rejection_status NotImplemented = 501
 rejection_status Unavailable = 503
 
 -- a status that the connection answers with itself, and 400 for any other
 abbrev pub known_status : ℕ → ℕ
 known_status status =
-    if (status == 401) || ((status == 403) || ((status == 413) || ((status == 414) || ((status == 415) || ((status == 421) || ((status == 431)
-    || ((status == 500) || ((status == 501) || (status == 503))))))))) then status else 400
+    if (status == 401) || ((status == 403) || ((status == 413) || ((status == 414) || ((status == 415) || ((status == 421) || ((status == 429) || ((status == 431)
+    || ((status == 500) || ((status == 501) || (status == 503)))))))))) then status else 400
 
 -- the fields of a response after which the connection is closed, and which has no body (RFC 9112, sections 6.2 and 9.6)
 abbrev pub last_fields : List (List ℕ × List ℕ)
@@ -51,10 +53,15 @@ challenge = (codes "www-authenticate", codes "Basic realm=\"vuldarg\", charset=\
 abbrev pub retry_after : List ℕ × List ℕ
 retry_after = (codes "retry-after", codes "1")
 
--- the fields of such a response; a 401 has a challenge too, and a 503 says when to try again
+-- and what is refused with 429: after a minute (RFC 6585, section 4)
+abbrev pub retry_later : List ℕ × List ℕ
+retry_later = (codes "retry-after", codes "60")
+
+-- the fields of such a response; a 401 has a challenge too, and a 429 and a 503 say when to try again
 abbrev pub closing_fields : ℕ → List (List ℕ × List ℕ)
 closing_fields status =
     if status == 401 then challenge ∷ last_fields
+    else if status == 429 then retry_later ∷ last_fields
     else if status == 503 then retry_after ∷ last_fields else last_fields
 
 -- a response with this status, its phrase and these fields

@@ -31,6 +31,8 @@ pub enum Rejection {
     UnsupportedMediaType,
     /// It is for another server (421).
     Misdirected,
+    /// Too many came like it: it may be sent again after a minute (429; RFC 6585, section 4).
+    TooManyRequests,
     /// Its method isn't served (501).
     NotImplemented,
     /// There is no room for its body (503).
@@ -38,7 +40,7 @@ pub enum Rejection {
 }
 
 impl Rejection {
-    /// The status of the response (RFC 9110, sections 15.5 and 15.6).
+    /// The status of the response (RFC 9110, sections 15.5 and 15.6; RFC 6585, section 4).
     pub fn status(self) -> u16
         ensures { result ≡ rejection_status self }
     {
@@ -47,6 +49,7 @@ impl Rejection {
             Rejection::Forbidden => 403,
             Rejection::UnsupportedMediaType => 415,
             Rejection::Misdirected => 421,
+            Rejection::TooManyRequests => 429,
             Rejection::NotImplemented => 501,
             Rejection::Unavailable => 503,
         }

@@ -1,5 +1,5 @@
 //! One connection: the bytes that came, and those that are to go.
-ghost use Rattle.std.specs.Prelude.{◌≡◌, ◌≢◌, ℕ, ◌≤◌, ◌<◌, ◌↔◌, [], length, take, IsTrue, OnOk, OnErr, IsErr};
+ghost use Rattle.std.specs.Prelude.{◌≡◌, ◌≢◌, ℕ, ◌≤◌, ◌<◌, ◌↔◌, [], length, nat_lt, take, IsTrue, OnOk, OnErr, IsErr};
 ghost use Rattle.dav_wire.specs.History.{Acts, IsServed, IsQuiet, Rests, held, new_history, after_taken, after_sent};
 ghost use Rattle.dav_wire.specs.Place.{Holds};
 
@@ -116,6 +116,21 @@ impl Peer {
         ensures { IsTrue result ↔ ((history self.now).state ≡ State.Open) }
     {
         self.line.is_open()
+    }
+
+    /// Whether the connection, where it goes on, waits for the rest of a body: the head of a request was judged whose body isn't whole.
+    pub fn is_in_body(&self) -> bool
+        ensures { (history self.now).state ≡ State.Open → result
+            ≡ nat_lt (length (history self.now).calls) (length (history self.now).judgements) }
+    {
+        self.line.intake.is_within
+    }
+
+    /// Whether bytes came that weren't read yet, as of a part of a head.
+    pub fn has_unread(&self) -> bool
+        ensures { result ≡ nat_lt 0 (length (history self.now).unread) }
+    {
+        self.line.intake.input.len() > 0
     }
 
     /// What is true of each connection, after any calls. It does nothing.

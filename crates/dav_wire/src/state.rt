@@ -39,7 +39,7 @@ pub enum Reason {
     EndOfInput,
     /// The next request is refused.
     Refused(Refusal),
-    /// The answerer doesn't take the next request, of whose head alone it knows (401, 403, 415, 421, 501 or 503).
+    /// The answerer doesn't take the next request, of whose head alone it knows (401, 403, 415, 421, 429, 501 or 503).
     Rejected(Rejection),
     /// The answerer's response can't be sent (500).
     Unsendable(WriteError),
@@ -109,6 +109,8 @@ pub(crate) fn closing_text(status: u16) -> &'static [u8]
             b"HTTP/1.1 415 Unsupported Media Type\r\nconnection: close\r\ncontent-length: 0\r\n\r\n",
         421 =>
             b"HTTP/1.1 421 Misdirected Request\r\nconnection: close\r\ncontent-length: 0\r\n\r\n",
+        429 =>
+            b"HTTP/1.1 429 Too Many Requests\r\nretry-after: 60\r\nconnection: close\r\ncontent-length: 0\r\n\r\n",
         431 =>
             b"HTTP/1.1 431 Request Header Fields Too Large\r\nconnection: close\r\ncontent-length: 0\r\n\r\n",
         500 =>

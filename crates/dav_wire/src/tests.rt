@@ -45,6 +45,7 @@ PUT /no-403 HTTP/1.1^Host: h^Expect: 100-continue^Content-Length: 5^^ -> HTTP/1.
 PUT /no-415 HTTP/1.1^Host: h^Transfer-Encoding: chunked^^5^hello^0^^ -> HTTP/1.1 415 Unsupported Media Type^connection: close^content-length: 0^^
 PUT /no-401 HTTP/1.1^Host: h^Content-Length: 5^^ -> HTTP/1.1 401 Unauthorized^www-authenticate: Basic realm=\"vuldarg\", charset=\"UTF-8\"^connection: close^content-length: 0^^
 GET /no-421 HTTP/1.1^Host: h^^GET /a HTTP/1.1^Host: h^^ -> HTTP/1.1 421 Misdirected Request^connection: close^content-length: 0^^
+PUT /no-429 HTTP/1.1^Host: h^Expect: 100-continue^Content-Length: 5^^ -> HTTP/1.1 429 Too Many Requests^retry-after: 60^connection: close^content-length: 0^^
 HEAD /no-501 HTTP/1.1^Host: h^^ -> HTTP/1.1 501 Not Implemented^connection: close^content-length: 0^^
 GET /a HTTP/1.1^Host: h^^PUT /no-503 HTTP/1.0^Content-Length: 5^^ -> HTTP/1.1 200 OK^content-length: 16^^GET /a HTTP/1.1|HTTP/1.1 503 Service Unavailable^retry-after: 1^connection: close^content-length: 0^^
 PUT /no-403 HTTP/1.1^Host: h^Content-Length: 17^^ -> HTTP/1.1 413 Payload Too Large^connection: close^content-length: 0^^
@@ -117,6 +118,7 @@ fn rejection_in(line: &[u8]) -> Option<Rejection> {
         b"403" => Some(Rejection::Forbidden),
         b"415" => Some(Rejection::UnsupportedMediaType),
         b"421" => Some(Rejection::Misdirected),
+        b"429" => Some(Rejection::TooManyRequests),
         b"501" => Some(Rejection::NotImplemented),
         b"503" => Some(Rejection::Unavailable),
         _ => None,
@@ -204,6 +206,6 @@ fn rows_are_told(rt: HostRuntime) -> Result<(), Fail> {
             count = count.saturating_add(1);
         }
     }
-    assert!(rt; count == 40, "{count} rows");
+    assert!(rt; count == 41, "{count} rows");
     Ok(())
 }

@@ -32,19 +32,20 @@ impl<H: Ends + Drop, J: Keeps + Drop> Service<H, J> {
     ghost use Rattle.dav_live.specs.Answers.{IsKeptFrom};
     ghost use Rattle.dav_live.specs.Admission.{request_in};
     ghost use Rattle.dav_live.specs.Runs.{GoesOn};
-    ghost use Rattle.dav_live.specs.Serving.{IsAccepted, IsResponseTo, IsRun, IsRunWhole, IsTimed, StaysAll, admission_of, belonging_to, held_of, kept_of};
+    ghost use Rattle.dav_live.specs.Serving.{IsAccepted, IsReplyTo, IsResponseTo, IsRun, IsRunWhole, IsTimed, StaysAll, admission_of, belonging_to, held_of, kept_of, logins_of};
 
     // Answers a request. 400 where the bytes of its head are none (RFC 9110, section 15.5.1).
     fn respond(&mut self, asked: &Asked, response: &mut Response) -> Result<(), Stop>
         requires { IsBlank response.old }
-        ensures responds { OnOk result (IsResponseTo H.answers H.refuses (admission_of self.old)
-            (held_of self.old) asked.now response.new (held_of self.new)) }
+        ensures replies { OnOk result (IsReplyTo H.answers H.refuses (admission_of self.old)
+            (logins_of self.old) (held_of self.old) asked.now response.new (held_of self.new)
+            (logins_of self.new)) }
         ensures same { OnOk result (admission_of self.new ≡ admission_of self.old) }
         ensures goes_on { OnOk result
             (GoesOn H.answers J.is_clean J.kept (kept_of self.old) (kept_of self.new)) }
     {
         match Head::read(asked.head.as_slice()) {
-            Some(head) => self.respond_to(&head, asked, response),
+            Some(head) => self.respond_in_time(&head, asked, response),
             None => {
                 response.status = StatusCode::BAD_REQUEST;
                 Ok(())
@@ -53,7 +54,7 @@ impl<H: Ends + Drop, J: Keeps + Drop> Service<H, J> {
     }
 
     // Answers a request with this head, and notes that it was answered.
-    fn respond_to(
+    pub(super) fn respond_to(
         &mut self,
         head: &Head<'_>,
         asked: &Asked,
@@ -64,6 +65,7 @@ impl<H: Ends + Drop, J: Keeps + Drop> Service<H, J> {
         ensures responds { OnOk result (IsResponseTo H.answers H.refuses (admission_of self.old)
             (held_of self.old) asked.now response.new (held_of self.new)) }
         ensures same { OnOk result (admission_of self.new ≡ admission_of self.old) }
+        ensures logins { OnOk result (logins_of self.new ≡ logins_of self.old) }
         ensures goes_on { OnOk result
             (GoesOn H.answers J.is_clean J.kept (kept_of self.old) (kept_of self.new)) }
     {
@@ -104,6 +106,7 @@ impl<H: Ends + Drop, J: Keeps + Drop> Service<H, J> {
             (request_in (admission_of self.old) admitted.now body.now) response.new
             (held_of self.new))) }
         ensures same { OnOk result (admission_of self.new ≡ admission_of self.old) }
+        ensures logins { OnOk result (logins_of self.new ≡ logins_of self.old) }
         ensures goes_on { OnOk result
             (GoesOn H.answers J.is_clean J.kept (kept_of self.old) (kept_of self.new)) }
     {
@@ -122,8 +125,14 @@ impl<H: Ends + Drop, J: Keeps + Drop> Service<H, J> {
     }
 
     // Notes that a request of this user was answered.
-    fn note(&mut self, user: &str, head: &Head<'_>, response: &Response) -> Result<(), Stop>
-        ensures { StaysAll self.old self.new }
+    pub(super) fn note(
+        &mut self,
+        user: &str,
+        head: &Head<'_>,
+        response: &Response,
+    ) -> Result<(), Stop>
+        ensures same { StaysAll self.old self.new }
+        ensures logins { logins_of self.new ≡ logins_of self.old }
     {
         let reply = Replied {
             status: response.status.as_u16(),
@@ -144,6 +153,7 @@ impl<H: Ends + Drop, J: Keeps + Drop> Service<H, J> {
         ensures run { OnOk result (IsRunWhole H.answers (admission_of self.old)
             (held_of self.old) request.now response.new (held_of self.new)) }
         ensures same { OnOk result (admission_of self.new ≡ admission_of self.old) }
+        ensures logins { OnOk result (logins_of self.new ≡ logins_of self.old) }
         ensures goes_on { OnOk result
             (GoesOn H.answers J.is_clean J.kept (kept_of self.old) (kept_of self.new)) }
     {
@@ -156,6 +166,7 @@ impl<H: Ends + Drop, J: Keeps + Drop> Service<H, J> {
         ensures timed { OnOk result (IsTimed H.answers (admission_of self.old) (held_of self.old)
             request.now response.old response.new (held_of self.new)) }
         ensures same { OnOk result (admission_of self.new ≡ admission_of self.old) }
+        ensures logins { OnOk result (logins_of self.new ≡ logins_of self.old) }
         ensures goes_on { OnOk result
             (GoesOn H.answers J.is_clean J.kept (kept_of self.old) (kept_of self.new)) }
     {
@@ -185,6 +196,7 @@ impl<H: Ends + Drop, J: Keeps + Drop> Service<H, J> {
           body = set.now.body;
         }) sent (held_of self.new) × IsAccepted sent.status response.old response.new) }
         ensures same { OnOk result (admission_of self.new ≡ admission_of self.old) }
+        ensures logins { OnOk result (logins_of self.new ≡ logins_of self.old) }
         ensures goes_on { OnOk result
             (GoesOn H.answers J.is_clean J.kept (kept_of self.old) (kept_of self.new)) }
     {
@@ -207,6 +219,7 @@ impl<H: Ends + Drop, J: Keeps + Drop> Service<H, J> {
         ensures run { OnOk result (IsRun H.answers (held_of self.old) request.now response.new
             (held_of self.new)) }
         ensures same { OnOk result (admission_of self.new ≡ admission_of self.old) }
+        ensures logins { OnOk result (logins_of self.new ≡ logins_of self.old) }
         ensures goes_on { OnOk result
             (GoesOn H.answers J.is_clean J.kept (kept_of self.old) (kept_of self.new)) }
     {
@@ -223,6 +236,7 @@ impl<H: Ends + Drop, J: Keeps + Drop> Service<H, J> {
         ensures run { OnOk result (IsRun H.answers (held_of self.old) request.now response.new
             (held_of self.new)) }
         ensures same { OnOk result (admission_of self.new ≡ admission_of self.old) }
+        ensures logins { OnOk result (logins_of self.new ≡ logins_of self.old) }
         ensures goes_on { OnOk result
             (GoesOn H.answers J.is_clean J.kept (kept_of self.old) (kept_of self.new)) }
     {
@@ -243,6 +257,7 @@ impl<H: Ends + Drop, J: Keeps + Drop> Service<H, J> {
         ensures run { OnOk result (IsRun H.answers (held_of self.old) request.now response.new
             (held_of self.new)) }
         ensures same { OnOk result (admission_of self.new ≡ admission_of self.old) }
+        ensures logins { OnOk result (logins_of self.new ≡ logins_of self.old) }
         ensures goes_on { OnOk result
             (GoesOn H.answers J.is_clean J.kept (kept_of self.old) (kept_of self.new)) }
     {
@@ -256,24 +271,6 @@ impl<H: Ends + Drop, J: Keeps + Drop> Service<H, J> {
                 Ok(())
             }
             Err(error) => Err(stop_of(error)),
-        }
-    }
-
-    // Judges a head that was read.
-    fn judge_head(&mut self, head: &Head<'_>) -> Result<Option<Rejection>, Stop>
-        ensures { StaysAll self.old self.new }
-    {
-        match self.admission.judge(head)? {
-            Some((why, user)) => {
-                let reply = Replied {
-                    status: why.status(),
-                    bytes: 0,
-                };
-                self.told
-                    .note(self.admission.moment(), user.as_str(), head, reply)?;
-                Ok(Some(why))
-            }
-            None => Ok(None),
         }
     }
 }
@@ -374,9 +371,9 @@ fn add_date(alloc: Global, moment: u64, response: &mut Response) -> Result<(), S
 
 impl<H: Ends + Drop, J: Keeps + Drop> Answerer for Service<H, J> {
     ghost use Rattle.std.specs.Prelude.{◌≡◌};
-    ghost use Rattle.dav_live.specs.Serving.{Serves, StaysAll};
+    ghost use Rattle.dav_live.specs.Serving.{IsJudged, Serves};
 
-    ghost judges = { λ old head verdict new. StaysAll old new };
+    ghost judges = { λ old head verdict new. IsJudged old head verdict new };
 
     ghost answers = { λ old asked response new.
         Serves H.answers H.refuses J.is_clean J.kept old asked response new };

@@ -114,13 +114,13 @@ impl<H: Ends + Drop, J: Keeps + Drop> Service<H, J> {
 }
 
 impl<H: Ends + Drop, J: Keeps + Drop> Keeper for Service<H, J> {
-    ghost use Rattle.dav_live.specs.Serving.{IsCommitted, IsGreeted, IsListed, IsMarked, IsPassed, StaysAll};
+    ghost use Rattle.dav_live.specs.Serving.{IsCommitted, IsGreeted, IsListed, IsMarked, IsPassed, IsPlaced};
 
     ghost greeted = { λ old bytes new. IsGreeted old bytes new };
 
     ghost listed = { λ old bytes new. IsListed old bytes new };
 
-    ghost placed = { λ old address new. StaysAll old new };
+    ghost placed = { λ old address new. IsPlaced old address new };
 
     ghost passed = { λ old seconds date new. IsPassed H.answers J.is_clean J.kept H.ends old seconds
         date new };
@@ -145,6 +145,7 @@ impl<H: Ends + Drop, J: Keeps + Drop> Keeper for Service<H, J> {
     }
 
     fn hear_address(&mut self, address: &[u8]) -> Result<(), Stop> {
+        self.logins.hear_address(address)?;
         Ok(self.told.hear_address(address)?)
     }
 

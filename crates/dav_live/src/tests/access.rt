@@ -113,6 +113,7 @@ fn admission(alloc: Global, lists: Lists) -> Result<Admission, Fail> {
         hosts: Vec::new(alloc),
         lock_time: 500,
         strict: false,
+        read_only: false,
         most_body: 1_000_000,
         most_waiting: 1_000_000,
         short_journal: 1_000_000,
@@ -156,7 +157,7 @@ fn decided(alloc: Global, admission: &mut Admission, head: &Head<'_>) -> Result<
             let status = match refused.reason {
                 Reason::Misdirected => "421",
                 Reason::Unauthorized => "401",
-                Reason::Forbidden => "403",
+                Reason::Forbidden | Reason::ReadOnly => "403",
                 Reason::TooLong => "414",
                 Reason::Outside => "404",
             };

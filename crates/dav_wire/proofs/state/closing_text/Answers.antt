@@ -36,6 +36,10 @@ pub returns-in-421 : goal.returns-in-421
 unfolding print_response
 returns-in-421 c = rw c.in-421.is refl
 
+pub returns-in-429 : goal.returns-in-429
+unfolding print_response
+returns-in-429 c = rw c.in-429.is refl
+
 pub returns-in-503 : goal.returns-in-503
 unfolding print_response
 returns-in-503 c = rw c.in-503.is refl

@@ -27,11 +27,11 @@ returns-in_ok-refuse-in-Refused-clause-responds g c =
     let away = subst (IsDecision a c.tokens-tokens.result c.args.head.now c.args.asked.now.body) c.in-Refused.is c.in_ok-refused.ensures.decision in
     holds_on c.note.result
     (turned_away c.args.head.now c.in-Refused.refused.reason (string_bytes c.in-Refused.refused.user) c.requires.head away c.in_ok-refuse-in-Refused.ensures
-    (ap (λ (k : Kept g.row.H.Denot g.row.J.Denot). held_by k) c.note.ensures.1))
+    (ap (λ (k : Kept g.row.H.Denot g.row.J.Denot). held_by k) c.note.ensures.same.1))
 
 pub returns-in_ok-refuse-in-Refused-clause-goes_on : goal.returns-in_ok-refuse-in-Refused-clause-goes_on
 returns-in_ok-refuse-in-Refused-clause-goes_on g c =
-    holds_on c.note.result (goes_on_same g.H.Handles.answers g.J.Keeps.is_clean g.J.Keeps.kept (kept_of c.args.self.now) (kept_of c.note.new.self) c.note.ensures.1)
+    holds_on c.note.result (goes_on_same g.H.Handles.answers g.J.Keeps.is_clean g.J.Keeps.kept (kept_of c.args.self.now) (kept_of c.note.new.self) c.note.ensures.same.1)
 
 pub returns-in_ok-run_if_allowed-in-Run-clause-responds : goal.returns-in_ok-run_if_allowed-in-Run-clause-responds
 returns-in_ok-run_if_allowed-in-Run-clause-responds g c =
@@ -42,4 +42,4 @@ returns-in_ok-run_if_allowed-in-Run-clause-responds g c =
     let request = subst (λ (n : ℕ). IsRequestOf a n c.args.head.now body (request_in a admitted body)) c.tokens-tokens.ensures d.0 in
     holds_on c.note-in-Run.result
     (ran_or_not g.H.Handles.answers g.H.Ends.refuses a _ (held_of c.args.self.now) (held_of c.run_if_allowed.new.self) (held_of c.note-in-Run.new.self) c.args.asked.now c.args.head.now admitted c.run_if_allowed.new.response
-    c.requires.head request c.in_ok-refused.ensures.same (ap (λ (k : Kept g.row.H.Denot g.row.J.Denot). held_by k) c.note-in-Run.ensures.1) c.in_ok-run_if_allowed-in-Run.ensures.ran)
+    c.requires.head request c.in_ok-refused.ensures.same (ap (λ (k : Kept g.row.H.Denot g.row.J.Denot). held_by k) c.note-in-Run.ensures.same.1) c.in_ok-run_if_allowed-in-Run.ensures.ran)

@@ -8,7 +8,7 @@ returns g c =
     on_ok c.add_date.result
     (λ dated. record {
       own = c.respond.new.response;
-      responds = c.in_ok-respond.ensures.responds;
+      replies = c.in_ok-respond.ensures.replies;
       dated = subst (λ (n : ℕ). IsDated n c.respond.new.response c.add_date.new.response) c.moment-moment.ensures.is dated;
       same = c.in_ok-respond.ensures.same;
       goes_on = c.in_ok-respond.ensures.goes_on;

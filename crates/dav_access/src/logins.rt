@@ -1,0 +1,237 @@
+//! Logins that were wrong or right, and who has to wait for the check of a password.
+ghost use Rattle.std.specs.Prelude.{◌≡◌, ◌&&◌, ◌||◌, ◌==◌, ◌++◌, ◌∷◌, [], OnOk, bytes_eq, count_by, nat_lt, not, take};
+ghost use Rattle.std.specs.List.{filter};
+ghost use Rattle.dav_access.specs.Logins.{is_recent, login_digest};
+
+use sha2::{Digest, Sha256};
+use std::alloc::{AllocError, Global};
+use std::marker::Model;
+
+/// Past so many wrong logins of one name, or from one address, within a minute, further ones wait.
+const FEW: usize = 4;
+
+/// So many wrong logins may be within a second.
+const MOST_AT_ONCE: usize = 8;
+
+/// So many wrong logins are known, and so many right ones; within a minute there are no more wrong ones.
+const MOST: usize = 1024;
+
+const MINUTE: u64 = 60;
+
+/// A wrong login: the SHA-256 of the name and of the address that it came from, and when, in the
+/// seconds of a clock that goes on steadily.
+#[derive(Clone, Copy, Debug, PartialEq, Eq)]
+pub struct WrongLogin {
+    pub name: [u8; 32],
+    pub address: [u8; 32],
+    pub seconds: u64,
+}
+
+/// The logins that were wrong within the last minute, and those that were right when they were tried
+/// last, at most 1,024 of each.
+#[derive(Drop)]
+pub struct Logins {
+    address: Vec<u8>,
+    wrong: Vec<WrongLogin>,
+    right: Vec<[u8; 32]>,
+}
+
+impl Model for Logins {
+    ghost use Rattle.dav_access.specs.Logins.{LoginsView};
+
+    ghost Value = { LoginsView };
+
+    ghost view = { λ l. record {
+      address = l.address.items;
+      wrong = l.wrong.items;
+      right = l.right.items;
+    } };
+}
+
+// Whether a wrong login is of the last minute.
+fn is_recent(login: &WrongLogin, now: u64) -> bool
+    ensures { result ≡ is_recent now login.now }
+{
+    now.saturating_sub(login.seconds) < MINUTE
+}
+
+// Whether it is, and is of the name with this digest.
+fn is_of(login: &WrongLogin, name: &[u8; 32], now: u64) -> bool
+    ensures { result ≡ (is_recent now login.now && bytes_eq login.now.name name.now) }
+{
+    is_recent(login, now) && login.name.as_slice() == name.as_slice()
+}
+
+// Whether it is, and came from the address with this digest.
+fn is_from(login: &WrongLogin, address: &[u8; 32], now: u64) -> bool
+    ensures { result ≡ (is_recent now login.now && bytes_eq login.now.address address.now) }
+{
+    is_recent(login, now) && login.address.as_slice() == address.as_slice()
+}
+
+// How many wrong logins there are of a second.
+fn count_at(wrong: &[WrongLogin], now: u64) -> usize
+    ensures { result ≡ count_by (λ w. w.seconds == now) wrong.now }
+{
+    wrong.iter().filter(|w| w.seconds == now).count()
+}
+
+// How many wrong logins of the last minute are of the name with this digest.
+fn count_of(wrong: &[WrongLogin], name: &[u8; 32], now: u64) -> usize
+    ensures { result
+        ≡ count_by (λ w. is_recent now w && bytes_eq w.name name.now) wrong.now }
+{
+    wrong.iter().filter(|w| is_of(w, name, now)).count()
+}
+
+// How many of the last minute came from the address with this digest.
+fn count_from(wrong: &[WrongLogin], address: &[u8; 32], now: u64) -> usize
+    ensures { result
+        ≡ count_by (λ w. is_recent now w && bytes_eq w.address address.now) wrong.now }
+{
+    wrong.iter().filter(|w| is_from(w, address, now)).count()
+}
+
+// Whether so many wrong logins of a name, or from an address, are many.
+fn are_many(of_name: usize, from_address: usize) -> bool
+    ensures { result ≡ (nat_lt 4 of_name || nat_lt 4 from_address) }
+{
+    of_name > FEW || from_address > FEW
+}
+
+// Forgets the wrong logins before the last minute, and adds one.
+fn remember(wrong: &mut Vec<WrongLogin>, login: WrongLogin, now: u64) -> Result<(), AllocError>
+    ensures { OnOk result (wrong.new.items
+        ≡ take 1024 (filter (is_recent now) wrong.old.items ++ login ∷ [])) }
+{
+    forget(wrong, now);
+    wrong.push(login)?;
+    wrong.truncate(MOST);
+    Ok(())
+}
+
+// Forgets the wrong logins before the last minute.
+fn forget(wrong: &mut Vec<WrongLogin>, now: u64)
+    ensures { wrong.new.items ≡ filter (is_recent now) wrong.old.items }
+{
+    wrong.retain(|w| is_recent(w, now));
+}
+
+// Forgets that the login with this digest was right.
+fn forget_right(right: &mut Vec<[u8; 32]>, digest: &[u8; 32])
+    ensures { right.new.items ≡ filter (λ d. not (bytes_eq d digest.now)) right.old.items }
+{
+    right.retain(|d| d.as_slice() != digest.as_slice());
+}
+
+// The digest of a login.
+fn login_digest(name: &[u8], password: &[u8]) -> [u8; 32]
+    ensures { result ≡ login_digest name.now password.now }
+{
+    let mut hasher = Sha256::new();
+    hasher.update(name);
+    hasher.update(b":");
+    hasher.update(password);
+    hasher.finalize()
+}
+
+impl Logins {
+    ghost use Rattle.std.specs.Prelude.{◌≡◌, OnOk};
+    ghost use Rattle.dav_access.specs.Logins.{after_right, after_wrong, are_many, is_full, is_right, no_logins, wait_of, wrong_login};
+
+    /// None was tried.
+    pub fn new(alloc: Global) -> Logins
+        ensures { result ≡ no_logins }
+    {
+        Logins {
+            address: Vec::new(alloc),
+            wrong: Vec::new(alloc),
+            right: Vec::new(alloc),
+        }
+    }
+
+    /// The logins that follow come from this address.
+    pub fn hear_address(&mut self, address: &[u8]) -> Result<(), AllocError>
+        ensures { OnOk result (self.new ≡ record self.old { address = address.now }) }
+    {
+        self.address.clear();
+        self.address.extend_from_slice(address)
+    }
+
+    /// For how many seconds a login waits at this time, in seconds, before its password is checked: 0
+    /// where it was right when it was tried last; 60 where five were wrong within the last minute of
+    /// that name, or five from the address that was heard last; 1 where eight were wrong within this
+    /// second; else 0.
+    pub fn wait_of(&self, name: &[u8], password: &[u8], now: u64) -> u64
+        ensures { result ≡ wait_of self.now name.now password.now now }
+    {
+        if self.is_right(&login_digest(name, password)) {
+            0
+        } else if self.are_many(name, now) {
+            MINUTE
+        } else if self.is_full(now) {
+            1
+        } else {
+            0
+        }
+    }
+
+    // Whether the login with this digest was right when it was tried last.
+    fn is_right(&self, digest: &[u8; 32]) -> bool
+        ensures { result ≡ is_right digest.now self.now }
+    {
+        self.right.iter().any(|d| d.as_slice() == digest.as_slice())
+    }
+
+    // Whether there are no more wrong logins to be in a second.
+    fn is_full(&self, now: u64) -> bool
+        ensures { result ≡ is_full self.now now }
+    {
+        count_at(&self.wrong, now) >= MOST_AT_ONCE
+    }
+
+    // Whether there were many wrong logins within the last minute.
+    fn are_many(&self, name: &[u8], now: u64) -> bool
+        ensures { result ≡ are_many self.now name.now now }
+    {
+        are_many(
+            count_of(&self.wrong, &Sha256::digest(name), now),
+            count_from(&self.wrong, &Sha256::digest(&self.address), now),
+        )
+    }
+
+    // A wrong login of this name.
+    fn wrong_login(&self, name: &[u8], now: u64) -> WrongLogin
+        ensures { result ≡ wrong_login self.now name.now now }
+    {
+        WrongLogin {
+            name: Sha256::digest(name),
+            address: Sha256::digest(&self.address),
+            seconds: now,
+        }
+    }
+
+    /// Notes that a login was wrong, at this time, in seconds. What is older than a minute is
+    /// forgotten.
+    pub fn note_wrong(&mut self, name: &[u8], password: &[u8], now: u64) -> Result<(), AllocError>
+        ensures { OnOk result (self.new ≡ after_wrong self.old name.now password.now now) }
+    {
+        let login = self.wrong_login(name, now);
+        remember(&mut self.wrong, login, now)?;
+        forget_right(&mut self.right, &login_digest(name, password));
+        Ok(())
+    }
+
+    /// Notes that a login was right.
+    pub fn note_right(&mut self, name: &[u8], password: &[u8]) -> Result<(), AllocError>
+        ensures { OnOk result (self.new ≡ after_right self.old name.now password.now) }
+    {
+        let digest = login_digest(name, password);
+        if self.is_right(&digest) {
+            return Ok(());
+        }
+        self.right.insert(0, digest)?;
+        self.right.truncate(MOST);
+        Ok(())
+    }
+}

@@ -1,0 +1,112 @@
+//! Wrong logins, and who waits after them.
+use super::parts;
+use crate::Logins;
+use std::alloc::{AllocError, Global};
+use std::test::Fail;
+
+// Wrong logins, each `name@address` and its second, `name+password` one that is right, `name-password`
+// one that is wrong, at second 0, and `N*` and `N+` so many wrong and right ones of as many names and
+// addresses; then who comes next, with the password `pw`, and for how many seconds that waits.
+const WAITS: &str = "\
+# none, and a few
+ | anna@a 0 -> 0
+anna@a 0 | anna@a 0 -> 0
+anna@a 0, anna@b 0, anna@c 0, anna@d 0 | anna@a 0 -> 0
+# five of a name, from anywhere; another name doesn't wait
+anna@a 0, anna@b 0, anna@c 0, anna@d 0, anna@e 0 | anna@a 0 -> 60
+anna@a 0, anna@b 0, anna@c 0, anna@d 0, anna@e 0 | anna@z 0 -> 60
+anna@a 0, anna@b 0, anna@c 0, anna@d 0, anna@e 0 | bert@a 0 -> 0
+anna@a 0, anna@b 0, anna@c 0, anna@d 0, anna@e 0 | Anna@a 0 -> 0
+@a 0, @b 0, @c 0, @d 0, @e 0 | @f 0 -> 60
+# five from an address, of any names
+a@a 0, b@a 0, c@a 0, d@a 0 | e@a 0 -> 0
+a@a 0, b@a 0, c@a 0, d@a 0, e@a 0 | f@a 0 -> 60
+a@a 0, b@a 0, c@a 0, d@a 0, e@a 0 | a@b 0 -> 0
+# after a minute
+anna@a 0, anna@a 10, anna@a 20, anna@a 30, anna@a 40 | anna@a 59 -> 60
+anna@a 0, anna@a 10, anna@a 20, anna@a 30, anna@a 40 | anna@a 60 -> 0
+anna@a 0, anna@a 10, anna@a 20, anna@a 30, anna@a 40, anna@a 60 | anna@a 69 -> 60
+anna@a 0, anna@a 10, anna@a 20, anna@a 30, anna@a 40, anna@a 60 | anna@a 70 -> 0
+anna@a 0, bert@b 100, anna@a 100, anna@a 100, anna@a 100, anna@a 100 | anna@a 100 -> 0
+# eight in a second
+7* 5 | anna@a 5 -> 0
+8* 5 | anna@a 5 -> 1
+8* 5 | anna@a 6 -> 0
+9* 5 | anna@a 5 -> 1
+7* 5, anna@a 5 | anna@a 5 -> 1
+7* 5, anna@a 6 | anna@a 6 -> 0
+7* 5, anna@a 65 | anna@a 5 -> 0
+8* 5, anna@a 5, anna@b 5, anna@c 5, anna@d 5, anna@e 5 | anna@z 5 -> 60
+# who was let in isn't kept out by others, but with another password
+anna+pw, anna@a 0, anna@b 0, anna@c 0, anna@d 0, anna@e 0 | anna@z 0 -> 0
+anna+pw, 1024* 0 | anna@0 0 -> 0
+anna+other, anna@a 0, anna@b 0, anna@c 0, anna@d 0, anna@e 0 | anna@z 0 -> 60
+ann+apw, 8* 0 | anna@a 0 -> 1
+bert+pw, anna@a 0, anna@b 0, anna@c 0, anna@d 0, anna@e 0 | anna@z 0 -> 60
+anna+pw, anna@a 0, anna@b 0, anna@c 0, anna@d 0, anna-pw | anna@z 0 -> 60
+anna+pw, anna-pw, anna+pw, 8* 0 | anna@a 0 -> 0
+anna+pw, anna+pw, anna-pw, 7* 0 | anna@a 0 -> 1
+anna+pw, 1023+ , 8* 0 | anna@a 0 -> 0
+anna+pw, 1024+ , 8* 0 | anna@a 0 -> 1
+# at most 1,024 are known
+1024* 5, anna@a 5 | anna@a 5 -> 1
+1024* 5, anna@a 5, anna@a 5, anna@a 5, anna@a 5, anna@a 5 | anna@z 64 -> 0
+";
+
+// Notes one wrong login, or so many.
+fn note(alloc: Global, logins: &mut Logins, who: &str, now: u64) -> Result<(), AllocError> {
+    if let Some((name, address)) = who.split_once('@') {
+        logins.hear_address(address.as_bytes())?;
+        return logins.note_wrong(name.as_bytes(), b"no", now);
+    }
+    let (count, is_right) = match who.split_once('+') {
+        Some((count, _)) => (count, true),
+        None => (who.trim_end_matches('*'), false),
+    };
+    for number in 0..count.parse::<u64>().unwrap_or(0) {
+        let text = format!(in alloc; "{number}")?;
+        if is_right {
+            logins.note_right(text.as_bytes(), b"yes")?;
+        } else {
+            logins.hear_address(text.as_bytes())?;
+            logins.note_wrong(text.as_bytes(), b"no", now)?;
+        }
+    }
+    Ok(())
+}
+
+// How long the login waits that comes after the others of a row.
+fn waited(alloc: Global, input: &str) -> Result<u64, Fail> {
+    let (before, next) = input.split_once(" | ").ok_or("a row without a login")?;
+    let mut logins = Logins::new(alloc);
+    for login in before.split(", ") {
+        if let Some((name, password)) = login.split_once('-') {
+            logins.note_wrong(name.as_bytes(), password.as_bytes(), 0)?;
+        } else if let Some((name, password)) = login.split_once('+')
+            && password != " "
+        {
+            logins.note_right(name.as_bytes(), password.as_bytes())?;
+        } else if let Some((who, at)) = login.split_once(' ') {
+            note(alloc, &mut logins, who, at.parse::<u64>().unwrap_or(0))?;
+        }
+    }
+    let (who, at) = next.split_once(' ').ok_or("a login without a time")?;
+    let (name, address) = who.split_once('@').ok_or("a login without an address")?;
+    logins.hear_address(address.as_bytes())?;
+    Ok(logins.wait_of(name.as_bytes(), b"pw", at.parse::<u64>().unwrap_or(0)))
+}
+
+#[test]
+fn wrong_logins_wait(rt: HostRuntime) -> Result<(), Fail> {
+    let mut count = 0usize;
+    for row in WAITS.lines() {
+        if let Some((input, wanted)) = parts(row) {
+            let found = waited(rt.alloc(), input)?;
+            let wanted = wanted.parse::<u64>().unwrap_or(u64::MAX);
+            assert!(&rt; found == wanted, "{row}\ngives: {found}");
+            count = count.saturating_add(1);
+        }
+    }
+    assert!(&rt; count == 36, "{count} rows");
+    Ok(())
+}
