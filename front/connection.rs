@@ -1,6 +1,6 @@
 //! A connection: its thread carries out the orders of the core. What its client has time for is counted while it is waited for the client
 //! alone, so a core that is busy takes nothing of that.
-use crate::Front;
+use crate::{Front, HEAD};
 use std::io::{self, ErrorKind, Read, Write};
 use std::net::{Shutdown, TcpStream};
 use std::sync::atomic::Ordering;
@@ -117,12 +117,13 @@ pub struct Connection<'f> {
     slot: usize,
     stream: &'f TcpStream,
     coming: Coming,
-    piece: Vec<u8>,
+    /// Room for the head of a report, and behind it what was read.
+    frame: Vec<u8>,
 }
 
 impl Connection<'_> {
     pub fn new<'f>(front: &'f Front, slot: usize, stream: &'f TcpStream) -> Connection<'f> {
-        Connection { front, slot, stream, coming: Coming::new(READ), piece: Vec::new() }
+        Connection { front, slot, stream, coming: Coming::new(READ), frame: vec![0u8; HEAD] }
     }
 
     /// Carries out orders until there are no more. The slot is free then.
@@ -136,7 +137,7 @@ impl Connection<'_> {
                 break;
             }
             match self.carry_out(&order) {
-                Ok((kind, count)) => self.front.report(self.slot, kind, &self.piece[..count])?,
+                Ok((kind, count)) => self.front.report_frame(self.slot, kind, &mut self.frame[..HEAD + count])?,
                 Err(_) => {
                     self.front.report(self.slot, GONE, &[])?;
                     break;
@@ -172,11 +173,11 @@ impl Connection<'_> {
         if is_idle && !self.front.slots.set_idle(self.slot, true) {
             return Err(ErrorKind::ConnectionAborted.into());
         }
-        if is_idle || self.piece.len() < PIECE {
-            self.piece = vec![0u8; if is_idle { FIRST } else { PIECE }];
+        if is_idle || self.frame.len() < HEAD + PIECE {
+            self.frame = vec![0u8; HEAD + if is_idle { FIRST } else { PIECE }];
         }
         let began = Instant::now();
-        let count = read_within(self.stream, &mut self.piece, self.coming.left(self.front.times));
+        let count = read_within(self.stream, &mut self.frame[HEAD..], self.coming.left(self.front.times));
         if is_idle && !self.front.slots.set_idle(self.slot, false) {
             return Err(ErrorKind::ConnectionAborted.into());
         }
