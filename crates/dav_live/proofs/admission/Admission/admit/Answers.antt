@@ -39,9 +39,9 @@ returns-then-not-branch c =
     let few : ¬ HasManySlashes c.args.head.now = search rules in
     let prefix : c.as_str.result.now ≡ a.prefix = c.as_str.ensures.value ∙ ap (λ (v : AdmissionView). v.prefix) c.self.view_is in
     let inside : ¬ IsOutside c.as_str.result.now c.args.head.now = λ is. true≢false (sym (c.in_ok-is_outside.ensures.1 is) ∙ c.if-branch.false) in
-    let open : ¬ IsClosedTo a c.args.head.now = search rules in
+    let free : ¬ IsClosedTo a c.args.head.now = search rules in
     let lent : option_copied c.as_deref.result ≡ who = search rules in
     let lacks : ¬ HasLeaveIn a (option_copied c.as_deref.result) c.deref.result.now = λ leave. true≢false (sym (c.in_ok-has_leave.ensures.1 leave) ∙ c.if-not-branch.true) in
     turned_away a c.args.tokens c.args.head.now c.args.body.now c.refused_of-then-not-branch.result r.0 (reason_for who) _ r.1 (r.2 ∙ c.reason_for.ensures) r.3
-    (without_leave who c.in_ok-kept.kept.items c.requires.let_in few (subst (λ p. ¬ IsOutside p c.args.head.now) prefix inside) open c.in_ok-kept.ensures
+    (without_leave who c.in_ok-kept.kept.items c.requires.let_in few (subst (λ p. ¬ IsOutside p c.args.head.now) prefix inside) free c.in_ok-kept.ensures
     (subst (λ (u : Option (List ℕ)). ¬ HasLeaveIn a u c.in_ok-kept.kept.items) lent (subst (λ (b : List ℕ). ¬ HasLeaveIn a (option_copied c.as_deref.result) b) c.deref.ensures.value lacks)))
