@@ -94,16 +94,22 @@ USERS | @a = anna;@a = ben -> access: line 2: the group '@a' is defined twice
 USERS | @a = dora -> access: line 1: there is no user 'dora'
 ";
 
-// The users and rules that the rows speak of: all, the rules of everybody alone, and the users alone.
-fn admissions(alloc: Global) -> Result<[Admission; 3], Fail> {
-    let users = Some(USERS.as_bytes());
-    let rules = Some(RULES.as_bytes());
-    let public = Some("read /public everybody".as_bytes());
-    Ok([
-        admission(alloc, Lists::read(alloc, users, rules)?)?,
-        admission(alloc, Lists::read(alloc, None, public)?)?,
-        admission(alloc, Lists::read(alloc, users, None)?)?,
-    ])
+// What goes by the users and the rules.
+fn by_both(alloc: Global) -> Result<Admission, Fail> {
+    let lists = Lists::read(alloc, Some(USERS.as_bytes()), Some(RULES.as_bytes()))?;
+    admission(alloc, lists)
+}
+
+// What goes by the rules of everybody alone.
+fn by_rules(alloc: Global) -> Result<Admission, Fail> {
+    let lists = Lists::read(alloc, None, Some("read /public everybody".as_bytes()))?;
+    admission(alloc, lists)
+}
+
+// What goes by the users alone.
+fn by_users(alloc: Global) -> Result<Admission, Fail> {
+    let lists = Lists::read(alloc, Some(USERS.as_bytes()), None)?;
+    admission(alloc, lists)
 }
 
 // What goes by these users and rules, below `/dav`.
@@ -169,17 +175,19 @@ fn decided(alloc: Global, admission: &mut Admission, head: &Head<'_>) -> Result<
 #[test]
 fn requests_are_let_in(rt: HostRuntime) -> Result<(), Fail> {
     let alloc = rt.alloc();
-    let [mut both, mut rules, mut users] = admissions(alloc)?;
+    let mut both = by_both(alloc)?;
+    let mut rules = by_rules(alloc)?;
+    let mut users = by_users(alloc)?;
     for row in REQUESTS.lines() {
         let Some((input, wanted)) = row.rsplit_once(" -> ") else {
             continue;
         };
         let bytes = head_in(alloc, input, "")?;
         let head = Head::read(&bytes).ok_or("no head")?;
-        let by_both = decided(alloc, &mut both, &head)?;
-        let by_rules = decided(alloc, &mut rules, &head)?;
-        let by_users = decided(alloc, &mut users, &head)?;
-        let found = format!(in alloc; "{by_both}, {by_rules}, {by_users}")?;
+        let one = decided(alloc, &mut both, &head)?;
+        let other = decided(alloc, &mut rules, &head)?;
+        let third = decided(alloc, &mut users, &head)?;
+        let found = format!(in alloc; "{one}, {other}, {third}")?;
         assert!(&rt; found.as_str() == wanted, "{row}\ngives: {found}");
     }
     Ok(())
@@ -201,7 +209,7 @@ fn judged(alloc: Global, admission: &mut Admission, head: &Head<'_>) -> Result<S
 #[test]
 fn long_bodies_need_leave(rt: HostRuntime) -> Result<(), Fail> {
     let alloc = rt.alloc();
-    let [mut both, _, _] = admissions(alloc)?;
+    let mut both = by_both(alloc)?;
     for row in LONG.lines() {
         let Some((input, wanted)) = row.rsplit_once(" -> ") else {
             continue;
@@ -261,7 +269,7 @@ fn users_and_rules_are_read_together(rt: HostRuntime) -> Result<(), Fail> {
         let found = listed(alloc, users.as_deref(), access.as_deref())?;
         assert!(&rt; found.as_str() == wanted, "{row}\ngives: {found}");
         // The same where they are reported: at a fault both are as they were.
-        let [mut both, _, _] = admissions(alloc)?;
+        let mut both = by_both(alloc)?;
         let report = report_of(alloc, users.as_deref(), access.as_deref())?;
         let fault = match both.hear_users(&report) {
             Ok(Some(ListsError::Memory)) | Err(_) => return Err("memory".into()),
