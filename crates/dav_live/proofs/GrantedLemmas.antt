@@ -2,6 +2,7 @@
 use Rattle.std.proofs.Common.{◌≡◌, ◌≤◌, ◌⊎◌, inl, inr, ℕ, Bool, true, false, IfSome, List, [], ◌∷◌, Option, Some, None, refl, sym, ap, subst, ◌∙◌, arith}
 use Rattle.http_server.specs.declared.response.Response.{Response}
 use Rattle.sqlite_disk.specs.declared.Disk.{Ghosts}
+use Rattle.dav_access.specs.Logins.{LoginsView}
 use Rattle.dav_access.specs.Rules.{Rules, may_read, may_write}
 use Rattle.dav_confined.specs.ConfinedSteps.{KeepsOff}
 use Rattle.dav_confined.specs.Leave.{HasLeave, Permits}
@@ -42,7 +43,7 @@ use Rattle.dav_live.specs.Answers.{IsAnswer, IsNextEnd, IsNotRun, caller_of}
 use Rattle.dav_live.specs.Granted.{AreAlikeAt, IsKeptOut, IsSound, LivesAreSound, RepliesStayInGrants, TurnsStayInGrants, TurnsStaySound, doing_elsewhere, world_of}
 use Rattle.dav_live.specs.LiveRun.{doing}
 use Rattle.dav_live.specs.Runs.{Commits, Saves, StaysKept}
-use Rattle.dav_live.specs.Serving.{EndsLocks, IsCommitted, IsEnded, IsGreeted, IsListed, IsMarked, IsPassed, IsResponseTo, IsRun, IsRunWhole, IsTimed, Serves, StaysAll, admission_of, all, anew, answered, belonging_to, full, held_of, kept_of, no_head, none, not_run, one, own_request, refused, run, stuck, told, turned_away, untold, without_leave}
+use Rattle.dav_live.specs.Serving.{EndsLocks, IsCommitted, IsEnded, IsGreeted, IsListed, IsMarked, IsPassed, IsReplyTo, IsResponseTo, IsRun, IsRunWhole, IsTimed, Serves, StaysAll, admission_of, all, anew, answered, belonging_to, full, headless, heard, held_of, kept_of, logins_of, no_head, none, not_run, one, own_request, refused, run, stuck, told, told_to_wait, turned_away, untold, without_leave}
 use Rattle.dav_live.specs.declared.service.Service.{Service}
 use Rattle.dav_live.proofs.MachineRuns.{step_of}
 use Rattle.dav_live.proofs.UnlockTexts.{unlock_keeps_off}
@@ -150,6 +151,12 @@ module _ (covered : Path → Bool) where
     responds_leads old new own off (not_run r q status is request refuses answer same) good = leads_same old.state new.state (ap (λ (h : Holding Server). h.state) same) good
     responds_leads old new own off (run r q is request may whole) good = whole_leads old new r q own old.tokens off is request whole good
 
+    replies_leads : (l after : LoginsView) (old new : Holding Server) (own : Response) → AllOff a old.state.settings asked → IsReplyTo IsAnswer IsNotRun a l old asked own new after → IsGood old.state
+        → Leads old.state new.state
+    replies_leads l after old new own off (told_to_wait r seconds is waits answer same stays) good = leads_same old.state new.state (ap (λ (h : Holding Server). h.state) same) good
+    replies_leads l after old new own off (heard r is may responds later) good = responds_leads old new own off responds good
+    replies_leads l after old new own off (headless nothing responds stays) good = responds_leads old new own off responds good
+
 -- who is kept out of paths keeps off them, whatever has leave
 kept_off : (covered : Path → Bool) (a : AdmissionView) (s : Settings) (asked : Asked) → s.prefix ≡ a.prefix → IsKeptOut covered a asked → AllOff covered a s asked
 kept_off covered a s asked prefix (rules, some, out) r user head is let_in leave x at who =
@@ -228,7 +235,7 @@ module _ {D : Type 0} (g : Ghosts D) (covered : Path → Bool) where
       → (IsSound old → AllOff covered (admission_of old) (held_of old).state.settings asked) → Keeps old new
   serves old new asked sent s off sound =
       sound_by old new sound
-      (responds_leads covered (admission_of old) asked (held_of old) (held_of new) s.own (off sound) s.responds (good_of old sound)) (ap (λ (a : AdmissionView). a.prefix) s.same)
+      (replies_leads covered (admission_of old) asked (logins_of old) (logins_of new) (held_of old) (held_of new) s.own (off sound) s.replies (good_of old sound)) (ap (λ (a : AdmissionView). a.prefix) s.same)
 
   keeps_same : (s : S) → Keeps s s
   keeps_same s = still s s refl refl
@@ -243,11 +250,11 @@ module _ {D : Type 0} (g : Ghosts D) (covered : Path → Bool) where
   elsewhere_carries = record {
     same = keeps_same;
     joined = keeps_on;
-    judges = λ a head verdict b both. stays a b both;
+    judges = λ a head verdict b judged. stays a b judged.same;
     answers = λ a asked sent b both. serves a b asked sent both.1 (λ sound. kept_off covered (admission_of a) (held_of a).state.settings asked sound.prefix both.0);
     greeted = λ a bytes b both. greeted a b bytes both;
     listed = λ a bytes b is. listed a b bytes is;
-    placed = λ a address b both. stays a b both;
+    placed = λ a address b both. stays a b both.0;
     passed = λ a seconds date b p. passed a b seconds date p;
     marked = λ a b m. marked a b m;
     kept = λ a b c. committed_keeps a b c;
@@ -261,11 +268,11 @@ nothing_carries : {D : Type 0} (g : Ghosts D) → Carries (doing g) (Keeps g (λ
 nothing_carries g = record {
   same = keeps_same g (λ q. false);
   joined = keeps_on g (λ q. false);
-  judges = λ a head verdict b both. stays g (λ q. false) a b both;
+  judges = λ a head verdict b judged. stays g (λ q. false) a b judged.same;
   answers = λ a asked sent b is. serves g (λ q. false) a b asked sent is (λ sound. off_nothing (admission_of a) (held_of a).state.settings asked);
   greeted = λ a bytes b both. greeted g (λ q. false) a b bytes both;
   listed = λ a bytes b is. listed g (λ q. false) a b bytes is;
-  placed = λ a address b both. stays g (λ q. false) a b both;
+  placed = λ a address b both. stays g (λ q. false) a b both.0;
   passed = λ a seconds date b p. passed g (λ q. false) a b seconds date p;
   marked = λ a b m. marked g (λ q. false) a b m;
   kept = λ a b c. committed_keeps g (λ q. false) a b c;
