@@ -150,6 +150,10 @@ abbrev pub refusal_fields : Reason → List (List ℕ × List ℕ)
 refusal_fields Unauthorized = (codes "www-authenticate", codes "Basic realm=\"vuldarg\", charset=\"UTF-8\"") ∷ []
 refusal_fields _ = []
 
+-- the fields of the response to a request that isn't run, by its status: 401 has the challenge
+abbrev pub challenge_fields : ℕ → List (List ℕ × List ℕ)
+challenge_fields status = if status == 401 then refusal_fields Unauthorized else []
+
 -- What a server goes by after its front reported these seconds of its steady clock and this date: its moment is at most the end of the
 -- year 9999.
 abbrev pub after_clocks : AdmissionView → ℕ → ℕ → AdmissionView

@@ -64,10 +64,15 @@ abbrev pub IsBarred : Option Rules → Server → Request → RequestView → Ty
 IsBarred None s came q = (user : List ℕ) × (q.principal ≡ Some user) × IsForeignUnlock s.state.locks came user
 IsBarred (Some rules) s came q = (came.method ≡ codes "UNLOCK") × (¬ MayUnlockIn rules s q)
 
--- A request that came, and would be run as that one, isn't run, and is answered with this status: 403 for an UNLOCK of a lock that its user
--- may not end (RFC 9110, section 15.5.4); or the status with which the server refuses it for its conditions, or for what it asks.
+-- the status of an UNLOCK of a lock that its user may not end: nobody is asked for a name (RFC 9110, sections 15.5.2 and 15.5.4)
+abbrev pub barred_status : Option (List ℕ) → ℕ
+barred_status None = 401
+barred_status (Some user) = 403
+
+-- A request that came, and would be run as that one, isn't run, and is answered with this status: that of an UNLOCK of a lock that its user
+-- may not end; or the status with which the server refuses it for its conditions, or for what it asks.
 pub data IsNotRun (rules : Option Rules) (s : Server) (came : Request) (q : RequestView) : ℕ → Type 0 where
-  barred : IsBarred rules s came q → IsNotRun rules s came q 403
+  barred : IsBarred rules s came q → IsNotRun rules s came q (barred_status q.principal)
   refused : {status : ℕ} (kept : Request) → ¬ IsBarred rules s came q
       → IsHead q.head kept → Refuses s kept q.body status → IsNotRun rules s came q status
 

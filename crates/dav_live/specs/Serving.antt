@@ -15,7 +15,7 @@ use Rattle.dav_kept.specs.declared.kept.Kept.{Kept}
 use Rattle.dav_server.specs.Head.{IsHead, Request}
 use Rattle.dav_wire.specs.declared.answer.Asked.{Asked}
 use Rattle.dav_wire.specs.declared.answer.Rejection.{Rejection}
-use Rattle.dav_live.specs.Admission.{AdmissionView, HasLeaveIn, IsRequestOf, IsTurnedAway, after_clocks, refusal_fields, status_of, with_random}
+use Rattle.dav_live.specs.Admission.{AdmissionView, HasLeaveIn, IsRequestOf, IsTurnedAway, after_clocks, challenge_fields, refusal_fields, status_of, with_random}
 use Rattle.dav_live.specs.Lists.{IsFaulty, Reports}
 use Rattle.dav_live.specs.Runs.{Commits, GoesOn, Saves, StaysKept}
 use Rattle.dav_live.specs.declared.admission.Reason.{Reason}
@@ -84,7 +84,7 @@ pub data IsResponseTo {S : Type 0} (answers : S → RequestView → Response →
   turned_away : (r : Request) (reason : Reason) (user : List ℕ) → IsHead asked.head r → IsTurnedAway a r reason user
       → IsResponse (status_of reason) (refusal_fields reason) [] own → new ≡ old → IsResponseTo answers refuses a old asked own new
   not_run : (r : Request) (q : RequestView) (status : ℕ) → IsHead asked.head r → IsRequestOf a old.tokens r asked.body q → refuses a.rules old.state r q status
-      → IsResponse status [] [] own → new ≡ old → IsResponseTo answers refuses a old asked own new
+      → IsResponse status (challenge_fields status) [] own → new ≡ old → IsResponseTo answers refuses a old asked own new
   run : (r : Request) (q : RequestView) → IsHead asked.head r → IsRequestOf a old.tokens r asked.body q → ((status : ℕ) → ¬ refuses a.rules old.state r q status)
       → IsRunWhole answers a old q own new → IsResponseTo answers refuses a old asked own new
 

@@ -2,7 +2,7 @@
 ghost use Rattle.std.specs.Prelude.{◌≡◌, ◌≢◌, ◌↔◌, [], IfOk, IsTrue, OnOk, option_map, unwrap_or, string_bytes};
 ghost use Rattle.http_server.specs.Response.{IsBlank, IsResponse};
 ghost use Rattle.dav_core.specs.declared.errors.DavError.TheVariants.{IllegalPath, Memory};
-ghost use Rattle.dav_live.specs.Admission.{HasManySlashes, IsOutside, IsTokenFor, reason_for, refusal_fields, slashes_in, status_of};
+ghost use Rattle.dav_live.specs.Admission.{HasManySlashes, IsOutside, IsTokenFor, challenge_fields, reason_for, refusal_fields, slashes_in, status_of};
 ghost use Rattle.dav_live.specs.declared.admission.RefusedRequest.{RefusedRequest as RefusedValue};
 
 mod login;
@@ -465,6 +465,18 @@ fn refused_of(alloc: Global, reason: Reason, user: Option<String>) -> Decision
         × (string_bytes refusal.user ≡ unwrap_or (option_map string_bytes user) []) }
 {
     refused(reason, user.unwrap_or(String::new(alloc)))
+}
+
+/// Fills the response to a request that isn't run with this status: 401 has the challenge (RFC 9110, section 11.6.1).
+pub fn refuse_with(status: StatusCode, response: &mut Response) -> Result<(), AllocError>
+    requires { IsBlank response.old }
+    ensures { OnOk result (IsResponse status (challenge_fields status) [] response.new) }
+{
+    if status == StatusCode::UNAUTHORIZED {
+        return refuse(Reason::Unauthorized, response);
+    }
+    response.status = status;
+    Ok(())
 }
 
 /// Fills the response to a request that isn't run: its status, and the challenge of 401 (RFC 9110, section 11.6.1; RFC 7617, section

@@ -2,13 +2,14 @@
 ghost use Rattle.std.specs.Prelude.{◌≡◌, ◌⊎◌, ◌↔◌, ℕ, IfOk, IsFalse, IsTrue, List, OnOk, codes};
 ghost use Rattle.dav_http.specs.Saved.{IsSaveable, Loads, saved_bytes};
 ghost use Rattle.std.specs.Bool.{Decides};
+ghost use Rattle.std.specs.Option.{option_copied};
 ghost use Rattle.http_server.specs.Response.{IsBlank};
 ghost use Rattle.dav_http.specs.Leaves.{Leaves};
 ghost use Rattle.dav_http.specs.Steps.{IsStepFor};
 ghost use Rattle.dav_kept.specs.declared.handler.Effect.TheVariants.{Left};
 ghost use Rattle.dav_live.specs.SavedRuns.{loads_what_was_saved};
 ghost use Rattle.dav_server.specs.Head.{IsHead};
-ghost use Rattle.dav_live.specs.Answers.{AsksToSee, IsAnswer, IsSentFor, caller_of};
+ghost use Rattle.dav_live.specs.Answers.{AsksToSee, IsAnswer, IsSentFor, barred_status, caller_of};
 
 use crate::ends::Ends;
 use crate::page;
@@ -279,6 +280,16 @@ fn is_for_folder(head: &[u8], reply: &Reply) -> bool
     }
 }
 
+// The status of an UNLOCK of a lock that this user may not end.
+fn barred_status(user: Option<&str>) -> StatusCode
+    ensures { result ≡ barred_status (option_copied user.entry) }
+{
+    match user {
+        Some(_) => StatusCode::FORBIDDEN,
+        None => StatusCode::UNAUTHORIZED,
+    }
+}
+
 // What an answer with this status to a request with this head did to the state.
 fn effect_of(head: &Head<'_>, status: u16) -> Effect
     ensures { (bytes : List ℕ) → IsHead bytes head.now → result ≡ Left → Leaves bytes status }
@@ -404,7 +415,7 @@ impl Ends for Machine {
         request: &Request<'_>,
     ) -> Result<Option<StatusCode>, NoMemory> {
         if self.is_barred(rules, head, request)? {
-            return Ok(Some(StatusCode::FORBIDDEN));
+            return Ok(Some(barred_status(request.principal)));
         }
         if !may_be_refused(head.method()) {
             return Ok(None);

@@ -7,7 +7,7 @@ ghost use Rattle.dav_live.specs.Admission.{AdmissionView, request_in};
 ghost use Rattle.dav_live.specs.Serving.{IsDated};
 ghost use Rattle.http_server.specs.Response.{fields_of};
 
-use crate::admission::{Admitted, Decision, refuse};
+use crate::admission::{Admitted, Decision, refuse, refuse_with};
 use crate::ends::Ends;
 use crate::rejection::is_plain_read;
 use crate::service::{Service, stop_of};
@@ -30,7 +30,7 @@ impl<H: Ends + Drop, J: Keeps + Drop> Service<H, J> {
     ghost use Rattle.dav_server.specs.Head.{IsHead};
     ghost use Rattle.dav_live.specs.Numbered.{HasNumber};
     ghost use Rattle.dav_live.specs.Answers.{IsKeptFrom};
-    ghost use Rattle.dav_live.specs.Admission.{request_in};
+    ghost use Rattle.dav_live.specs.Admission.{challenge_fields, request_in};
     ghost use Rattle.dav_live.specs.Runs.{GoesOn};
     ghost use Rattle.dav_live.specs.Serving.{IsAccepted, IsReplyTo, IsResponseTo, IsRun, IsRunWhole, IsTimed, StaysAll, admission_of, belonging_to, held_of, kept_of, logins_of};
 
@@ -98,7 +98,8 @@ impl<H: Ends + Drop, J: Keeps + Drop> Service<H, J> {
             (((status : ℕ) × H.refuses (admission_of self.old).rules
             (held_of self.old).state head.now
             (request_in (admission_of self.old) admitted.now body.now) status
-            × IsResponse status [] [] response.new × (held_of self.new ≡ held_of self.old))
+            × IsResponse status (challenge_fields status) [] response.new
+            × (held_of self.new ≡ held_of self.old))
             ⊎ (((status : ℕ) → ¬ H.refuses (admission_of self.old).rules
             (held_of self.old).state head.now
             (request_in (admission_of self.old) admitted.now body.now) status)
@@ -117,7 +118,7 @@ impl<H: Ends + Drop, J: Keeps + Drop> Service<H, J> {
             .refusal(self.admission.rules(), head, &request)?
         {
             Some(status) => {
-                response.status = status;
+                refuse_with(status, response)?;
                 Ok(())
             }
             None => self.run_whole(admitted.only_reads, &request, response),

@@ -11,5 +11,5 @@ use Rattle.dav_live.proofs.live.Live.serve_once.Goals as goal
 
 pub returns-clause-run : goal.returns-clause-run
 returns-clause-run g c =
-    subst (λ (k : Kept Server (Pair g.row.D.Denot)). RunGoesOn IsAnswer saved_bytes IsSaveable (λ j. IsCleanPair g.D.Disk j) (λ j bs. IsKeptPair g.D.Disk j bs) (kept_in c.args.self.now) k) (sym c.tell.ensures.1)
+    subst (λ (k : Kept Server (Pair g.row.D.Denot)). RunGoesOn IsAnswer saved_bytes IsSaveable (λ j. IsCleanPair g.D.Disk j) (λ j bs. IsKeptPair g.D.Disk j bs) (kept_in c.args.self.now) k) (sym c.tell.ensures.same.1)
     c.in_ok-used.ensures.run

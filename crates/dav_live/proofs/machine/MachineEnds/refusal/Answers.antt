@@ -1,15 +1,18 @@
-use Rattle.std.proofs.Common.{List, ap, subst, sym, true≢false, ℕ, ◌∙◌}
+use Rattle.std.proofs.Common.{◌≡◌, List, ap, rules, subst, sym, true≢false, ℕ, ◌∙◌}
 use Rattle.std.specs.Option.{option_copied}
 use Rattle.std.proofs.lemmas.Result.{IfOk-weaker}
 use Rattle.dav_kept.specs.Records.{RequestView}
 use Rattle.dav_server.specs.Head.{IsHead}
 use Rattle.dav_http.specs.Refused.{MayBeRefused}
-use Rattle.dav_live.specs.Answers.{barred}
+use Rattle.dav_live.specs.Answers.{IsNotRun, barred, barred_status}
 use Rattle.dav_live.proofs.MachineLemmas.{not_run_from, not_run_headless, not_run_of}
 use Rattle.dav_live.proofs.machine.MachineEnds.refusal.Goals as goal
 
 pub returns-then-branch : goal.returns-then-branch
-returns-then-branch c = barred (c.in_ok-is_barred.ensures.0 c.if-branch.true)
+returns-then-branch c =
+    let who : option_copied c.request.inside.principal ≡ c.args.request.now.principal = search rules in
+    subst (λ (n : ℕ). IsNotRun (option_copied c.args.rules) c.args.self.now c.args.head.now c.args.request.now n) (sym (c.barred_status.ensures ∙ ap barred_status who))
+    (barred (c.in_ok-is_barred.ensures.0 c.if-branch.true))
 
 pub returns-then-not-may_be_refused : goal.returns-then-not-may_be_refused
 returns-then-not-may_be_refused c =

@@ -8,8 +8,8 @@ use Rattle.dav_live.proofs.RunLemmas.{goes_on_same}
 use Rattle.dav_live.proofs.ServingLemmas.{not_refused, refused_by}
 use Rattle.dav_live.proofs.service.Service.run_if_allowed.Goals as goal
 
-pub returns-in-Some-clause-goes_on : goal.returns-in-Some-clause-goes_on
-returns-in-Some-clause-goes_on g c = goes_on_same g.H.Handles.answers g.J.Keeps.is_clean g.J.Keeps.kept (kept_of c.args.self.now) c.args.self.now.kept refl
+pub returns-in_ok-refuse_with-in-Some-clause-goes_on : goal.returns-in_ok-refuse_with-in-Some-clause-goes_on
+returns-in_ok-refuse_with-in-Some-clause-goes_on g c = goes_on_same g.H.Handles.answers g.J.Keeps.is_clean g.J.Keeps.kept (kept_of c.args.self.now) c.args.self.now.kept refl
 
 pub returns-in-None-clause-ran : goal.returns-in-None-clause-ran
 returns-in-None-clause-ran g c =
@@ -21,14 +21,14 @@ pub run_whole-requires-clause-number : goal.run_whole-requires-clause-number
 run_whole-requires-clause-number g c =
     subst (λ (v : RequestView). HasNumber c.args.self.now.kept.tokens v.token) (sym (c.request_in-request.ensures (admission_of c.args.self.now) (sym c.moment.ensures.is))) c.requires.number
 
-pub returns-in-Some-clause-ran : goal.returns-in-Some-clause-ran
-returns-in-Some-clause-ran g c =
+pub returns-in_ok-refuse_with-in-Some-clause-ran : goal.returns-in_ok-refuse_with-in-Some-clause-ran
+returns-in_ok-refuse_with-in-Some-clause-ran g c =
     inl (
       c.in-Some.status,
       refused_by g.H.Ends.refuses _ (admission_of c.args.self.now).rules c.handler.result.now c.args.self.now.kept.handler c.args.head.now c.request_in-request.result
           (request_in (admission_of c.args.self.now) c.args.admitted.now c.args.body.now) c.in_ok-status.field-0 c.in-Some.status c.rules.ensures c.handler.ensures
           (c.request_in-request.ensures (admission_of c.args.self.now) (sym c.moment.ensures.is)) c.in-Some.is c.in_ok-status.ensures,
-      record { status = refl; headers = c.requires.blank.headers; body = c.requires.blank.body },
+      c.in_ok-refuse_with-in-Some.ensures,
       refl,
     )
 
