@@ -73,6 +73,11 @@ fn status(admission: &mut Admission, head: &Head<'_>) -> Result<u16, Fail> {
     }
 }
 
+// A text as it is. A text that a function gives is known to be UTF-8, as a format wants it.
+fn same(text: &str) -> &str {
+    text
+}
+
 // The status that a row has.
 fn wanted_in(text: &str) -> u16 {
     text.parse::<u16>().unwrap_or(200)
@@ -127,6 +132,7 @@ fn logins_are_shown(rt: HostRuntime) -> Result<(), Fail> {
         } else {
             "Authorization"
         };
+        let (field, value) = (same(field), same(value));
         let text = format!(in alloc; "GET /a HTTP/1.1^Host: localhost^{field}: {value}^^")?;
         let bytes = unescaped(alloc, text.as_str())?;
         let head = Head::read(&bytes).ok_or("no head")?;
