@@ -100,7 +100,7 @@ impl<H: Ends + Drop, J: Keeps + Drop> Service<H, J> {
 
     // Judges a head that was read: who has to wait may not, and else as the server says.
     pub(super) fn judge_head(&mut self, head: &Head<'_>) -> Result<Option<Rejection>, Stop>
-        ensures same { OnOk result (StaysAll self.old self.new) }
+        ensures same { StaysAll self.old self.new }
         ensures login { IfOk result (λ verdict. IsAfterVerdict (admission_of self.old)
             (logins_of self.old) head.now verdict (logins_of self.new)) }
     {
