@@ -1,6 +1,5 @@
 //! The clocks that reports tell: one that nobody sets, and the date.
 use std::fs;
-use std::sync::atomic::{AtomicU64, Ordering};
 use std::time::{Duration, Instant, SystemTime, UNIX_EPOCH};
 
 /// A clock that goes on steadily, also while the machine sleeps, and is never set.
@@ -8,25 +7,25 @@ pub struct Clock {
     begun: Instant,
     /// How long the machine was up then; none where it doesn't tell.
     up: Option<Duration>,
-    /// So many milliseconds it slept since then, in which `Instant` stands still.
-    asleep: AtomicU64,
+    /// So long it slept since then, in which `Instant` stands still.
+    asleep: Duration,
 }
 
 impl Clock {
     pub fn new() -> Clock {
-        Clock { begun: Instant::now(), up: uptime(), asleep: AtomicU64::new(0) }
+        Clock { begun: Instant::now(), up: uptime(), asleep: Duration::ZERO }
     }
 
     /// The seconds since it began.
     pub fn seconds(&self) -> u64 {
-        (self.begun.elapsed() + Duration::from_millis(self.asleep.load(Ordering::SeqCst))).as_secs()
+        (self.begun.elapsed() + self.asleep).as_secs()
     }
 
     /// Sees how long the machine slept.
-    pub fn look(&self) {
+    pub fn look(&mut self) {
         if let (Some(then), Some(now)) = (self.up, uptime()) {
             let asleep = now.saturating_sub(then).saturating_sub(self.begun.elapsed());
-            self.asleep.fetch_max(asleep.as_millis() as u64, Ordering::SeqCst);
+            self.asleep = self.asleep.max(asleep);
         }
     }
 }

@@ -1,17 +1,12 @@
-//! A connection: its thread carries out the orders of the core. What its client has time for is counted while it is waited for the client
-//! alone, so a core that is busy takes nothing of that.
-use crate::{Front, HEAD};
+//! A connection: it carries out the orders of the core, as far as its client lets it. What its client has time for is counted while it is
+//! waited for the client alone, so a core that is busy takes nothing of that.
+use crate::core::{Core, PIECE};
 use std::io::{self, ErrorKind, Read, Write};
-use std::net::{Shutdown, TcpStream};
-use std::sync::atomic::Ordering;
-use std::sync::mpsc::Receiver;
+use std::net::{IpAddr, Shutdown, TcpStream};
 use std::time::{Duration, Instant};
 
-/// At most so much is read at once; and for so much of a body or of a reply a client has a time.
-const PIECE: usize = 65_536;
-
-/// So much is read at once of what begins a request: a connection that waits for one takes little memory.
-const FIRST: usize = 4096;
+/// A connection with nothing to send keeps so much room at most.
+const KEPT: usize = 4096;
 
 /// The time that a client has for the head of a request.
 const HEAD_TIME: Duration = Duration::from_secs(10);
@@ -25,17 +20,6 @@ const TELL: u8 = 0;
 const READ: u8 = 1;
 const CLOSE: u8 = 2;
 const READ_BODY: u8 = 4;
-
-/// What is reported of a connection.
-pub const OPENED: u8 = 1;
-const GOT: u8 = 2;
-const SENT: u8 = 3;
-pub const GONE: u8 = 4;
-
-pub struct Order {
-    pub next: u8,
-    pub bytes: Vec<u8>,
-}
 
 /// The times that clients have.
 #[derive(Clone, Copy)]
@@ -77,120 +61,284 @@ impl Coming {
     }
 }
 
-/// Reads once, within this time.
-fn read_within(mut stream: &TcpStream, piece: &mut [u8], time: Duration) -> io::Result<usize> {
-    if time.is_zero() {
-        return Err(ErrorKind::TimedOut.into());
-    }
-    stream.set_read_timeout(Some(time))?;
-    stream.read(piece)
+/// What a connection does.
+#[derive(Clone, Copy, PartialEq)]
+enum Doing {
+    /// The core owes it an order.
+    Waits,
+    /// It sends the bytes of an order.
+    Sends,
+    /// It reads once.
+    Reads,
+    /// Its client may read what was sent last.
+    Lingers,
 }
 
-/// Writes bytes, each piece of them within this time.
-fn write_within(mut stream: &TcpStream, bytes: &[u8], time: Duration) -> io::Result<()> {
-    for mut piece in bytes.chunks(PIECE) {
-        let end = Instant::now() + time;
-        while !piece.is_empty() {
-            let left = end.saturating_duration_since(Instant::now());
-            if left.is_zero() {
-                return Err(ErrorKind::TimedOut.into());
-            }
-            stream.set_write_timeout(Some(left))?;
-            let count = stream.write(piece)?;
-            piece = &piece[count..];
-        }
-    }
-    Ok(())
-}
-
-/// Lets the peer read what was sent.
-fn linger(stream: &TcpStream) {
-    let _ = stream.shutdown(Shutdown::Write);
-    let mut piece = [0u8; FIRST];
-    let end = Instant::now() + LINGER;
-    while read_within(stream, &mut piece, end.saturating_duration_since(Instant::now())).is_ok_and(|count| count > 0) {}
+/// What became of a connection.
+#[derive(PartialEq)]
+pub enum Outcome {
+    /// It waits: for the core, or for its client.
+    Waits,
+    /// It would read, once the core has taken more reports.
+    Held,
+    /// The bytes of an order were sent, which is to be reported.
+    Sent,
+    /// So many bytes came, into the room of a report.
+    Got(usize),
+    /// It is gone.
+    Gone,
 }
 
 /// A connection in its slot.
-pub struct Connection<'f> {
-    front: &'f Front,
-    slot: usize,
-    stream: &'f TcpStream,
+pub struct Connection {
+    stream: TcpStream,
+    pub origin: IpAddr,
+    doing: Doing,
+    /// What is to be done after the bytes of the order; none as long as not all of them came from the core.
+    next: Option<u8>,
+    /// Bytes that the client hasn't taken yet, from `sent` on; so many of a piece were taken.
+    bytes: Vec<u8>,
+    sent: usize,
+    taken: usize,
     coming: Coming,
-    /// Room for the head of a report, and behind it what was read.
-    frame: Vec<u8>,
+    /// Since when it does that.
+    since: Instant,
+    /// When its client has no more time.
+    end: Option<Instant>,
+    /// What the kernel may still have for it, as far as it told.
+    readable: bool,
+    writable: bool,
+    hung_up: bool,
+    /// Whether it is to go as soon as the core's order is there.
+    leaves: bool,
 }
 
-impl Connection<'_> {
-    pub fn new<'f>(front: &'f Front, slot: usize, stream: &'f TcpStream) -> Connection<'f> {
-        Connection { front, slot, stream, coming: Coming::new(READ), frame: vec![0u8; HEAD] }
+impl Connection {
+    pub fn new(stream: TcpStream, origin: IpAddr) -> io::Result<Connection> {
+        stream.set_nonblocking(true)?;
+        stream.set_nodelay(true)?;
+        Ok(Connection {
+            stream,
+            origin,
+            doing: Doing::Waits,
+            next: None,
+            bytes: Vec::new(),
+            sent: 0,
+            taken: 0,
+            coming: Coming::new(READ),
+            since: Instant::now(),
+            end: None,
+            readable: false,
+            writable: true,
+            hung_up: false,
+            leaves: false,
+        })
     }
 
-    /// Carries out orders until there are no more. The slot is free then.
-    pub fn serve(mut self, orders: &Receiver<Order>) -> io::Result<()> {
-        let _ = self.stream.set_nodelay(true);
-        let peer = self.stream.peer_addr().map_or(String::new(), |address| address.ip().to_string());
-        self.front.report(self.slot, OPENED, peer.as_bytes())?;
-        while let Ok(order) = orders.recv() {
-            if order.next == CLOSE {
-                self.close(&order.bytes);
-                break;
-            }
-            match self.carry_out(&order) {
-                Ok((kind, count)) => self.front.report_frame(self.slot, kind, &mut self.frame[..HEAD + count])?,
+    pub fn stream(&self) -> &TcpStream {
+        &self.stream
+    }
+
+    pub fn since(&self) -> Instant {
+        self.since
+    }
+
+    pub fn end(&self) -> Option<Instant> {
+        self.end
+    }
+
+    /// Whether nothing of a request came since the last reply.
+    pub fn is_idle(&self) -> bool {
+        self.doing == Doing::Lingers || self.doing == Doing::Reads && self.coming.what == READ
+    }
+
+    /// Whether the core knows of it.
+    pub fn is_known(&self) -> bool {
+        self.next != Some(CLOSE) && self.doing != Doing::Lingers
+    }
+
+    pub fn leaves(&self) -> bool {
+        self.leaves
+    }
+
+    /// Whether all bytes that the core ordered were sent.
+    pub fn is_sent(&self) -> bool {
+        self.doing != Doing::Sends
+    }
+
+    /// It is to go. True where it can go at once: the core owes it no order.
+    pub fn leave(&mut self) -> bool {
+        self.leaves = true;
+        self.doing != Doing::Waits && (self.doing != Doing::Sends || self.next.is_some())
+    }
+
+    /// What the kernel tells of it.
+    pub fn note(&mut self, readable: bool, writable: bool, hung_up: bool) {
+        self.readable |= readable;
+        self.writable |= writable;
+        self.hung_up |= hung_up;
+    }
+
+    /// Bytes of an order came from the core. One that fails goes with the end of the order, since the core's bytes are for it until then.
+    pub fn give(&mut self, bytes: &[u8], times: Times) {
+        if self.doing != Doing::Sends {
+            self.send(times);
+        }
+        if self.leaves {
+            return;
+        }
+        let mut rest = bytes;
+        if self.bytes.is_empty() && self.writable {
+            match self.write(rest, times) {
+                Ok(count) => rest = &rest[count..],
                 Err(_) => {
-                    self.front.report(self.slot, GONE, &[])?;
-                    break;
+                    self.leaves = true;
+                    return;
                 }
             }
         }
-        self.front.slots.free(self.slot);
-        Ok(())
+        self.bytes.extend_from_slice(rest);
     }
 
-    /// Sends bytes; they are sent, or the client has no more time.
-    fn send(&mut self, bytes: &[u8]) -> io::Result<()> {
-        let written = write_within(self.stream, bytes, self.front.times.piece);
-        self.front.writing.fetch_sub(1, Ordering::SeqCst);
-        written
-    }
-
-    /// Sends the bytes of an order, and reads where that is ordered: what is to be reported.
-    fn carry_out(&mut self, order: &Order) -> io::Result<(u8, usize)> {
-        self.send(&order.bytes)?;
-        if order.next == TELL {
-            return Ok((SENT, 0));
+    /// An order is whole: what is to be done after its bytes.
+    pub fn order(&mut self, next: u8, times: Times) {
+        let is_bare = self.doing != Doing::Sends;
+        if is_bare {
+            self.send(times);
         }
-        if order.next == READ || order.next != self.coming.what || !order.bytes.is_empty() {
-            self.coming = Coming::new(order.next);
+        self.next = Some(next);
+        let reads = next != TELL && next != CLOSE;
+        if reads && (next == READ || next != self.coming.what || !is_bare) {
+            self.coming = Coming::new(next);
         }
-        Ok((GOT, self.read()?))
     }
 
-    /// Reads once. A connection that waits for a request may be told to go.
-    fn read(&mut self) -> io::Result<usize> {
-        let is_idle = self.coming.what == READ;
-        if is_idle && !self.front.slots.set_idle(self.slot, true) {
+    fn send(&mut self, times: Times) {
+        self.doing = Doing::Sends;
+        (self.since, self.taken, self.next) = (Instant::now(), 0, None);
+        self.end = Some(self.since + times.piece);
+    }
+
+    /// Goes on as far as the client and the core let it.
+    pub fn go_on(&mut self, core: &mut Core, times: Times) -> Outcome {
+        loop {
+            let went = match self.doing {
+                Doing::Waits => return Outcome::Waits,
+                Doing::Sends => self.go_on_sending(times),
+                Doing::Reads => return self.read(core).unwrap_or(Outcome::Gone),
+                Doing::Lingers => return self.linger(),
+            };
+            match went {
+                Ok(None) => {}
+                Ok(Some(outcome)) => return outcome,
+                Err(_) => return Outcome::Gone,
+            }
+        }
+    }
+
+    /// Sends what it can; where all is sent, what comes then. None where it goes on with that.
+    fn go_on_sending(&mut self, times: Times) -> io::Result<Option<Outcome>> {
+        if self.leaves && self.next.is_some() {
             return Err(ErrorKind::ConnectionAborted.into());
         }
-        if is_idle || self.frame.len() < HEAD + PIECE {
-            self.frame = vec![0u8; HEAD + if is_idle { FIRST } else { PIECE }];
+        while self.sent < self.bytes.len() && self.writable {
+            let bytes = std::mem::take(&mut self.bytes);
+            let written = self.write(&bytes[self.sent..], times);
+            self.bytes = bytes;
+            self.sent += written?;
         }
-        let began = Instant::now();
-        let count = read_within(self.stream, &mut self.frame[HEAD..], self.coming.left(self.front.times));
-        if is_idle && !self.front.slots.set_idle(self.slot, false) {
-            return Err(ErrorKind::ConnectionAborted.into());
+        let (true, Some(next)) = (self.sent == self.bytes.len(), self.next) else {
+            return Ok(Some(Outcome::Waits));
+        };
+        self.let_go_of_bytes();
+        (self.since, self.end) = (Instant::now(), None);
+        match next {
+            TELL => {
+                self.doing = Doing::Waits;
+                Ok(Some(Outcome::Sent))
+            }
+            CLOSE => {
+                self.stream.shutdown(Shutdown::Write)?;
+                (self.doing, self.end) = (Doing::Lingers, Some(self.since + LINGER));
+                Ok(None)
+            }
+            _ => {
+                (self.doing, self.end) = (Doing::Reads, Some(self.since + self.coming.left(times)));
+                Ok(None)
+            }
         }
-        let count = count?;
-        self.coming.add(count, began.elapsed());
-        Ok(count)
     }
 
-    /// Sends the last bytes, and closes. The core has let the connection go.
-    fn close(&mut self, bytes: &[u8]) {
-        self.front.slots.let_go(self.slot);
-        if self.send(bytes).is_ok() && self.front.slots.set_idle(self.slot, true) {
-            linger(self.stream);
+    /// Nothing is left to be sent; a large room isn't kept.
+    fn let_go_of_bytes(&mut self) {
+        self.sent = 0;
+        match self.bytes.capacity() > KEPT {
+            true => self.bytes = Vec::new(),
+            false => self.bytes.clear(),
         }
+    }
+
+    /// Writes once; the count of bytes that were taken. For each piece of them the client has its time.
+    fn write(&mut self, bytes: &[u8], times: Times) -> io::Result<usize> {
+        match (&self.stream).write(bytes) {
+            Ok(count) => {
+                self.writable = count == bytes.len();
+                self.taken += count;
+                if self.taken >= PIECE {
+                    (self.taken, self.end) = (0, Some(Instant::now() + times.piece));
+                }
+                Ok(count)
+            }
+            Err(error) if error.kind() == ErrorKind::WouldBlock => {
+                self.writable = false;
+                Ok(0)
+            }
+            Err(error) if error.kind() == ErrorKind::Interrupted => Ok(0),
+            Err(error) => Err(error),
+        }
+    }
+
+    /// Reads once into the room of a report.
+    fn read(&mut self, core: &mut Core) -> io::Result<Outcome> {
+        if self.leaves && self.is_idle() {
+            return Err(ErrorKind::ConnectionAborted.into());
+        }
+        if !self.readable && !self.hung_up {
+            return Ok(Outcome::Waits);
+        }
+        if !core.has_room() {
+            return Ok(Outcome::Held);
+        }
+        match (&self.stream).read(core.room()) {
+            Ok(count) => {
+                self.readable = count == PIECE;
+                self.coming.add(count, self.since.elapsed());
+                (self.doing, self.since, self.end) = (Doing::Waits, Instant::now(), None);
+                Ok(Outcome::Got(count))
+            }
+            Err(error) if error.kind() == ErrorKind::WouldBlock => {
+                self.readable = false;
+                Ok(Outcome::Waits)
+            }
+            Err(error) if error.kind() == ErrorKind::Interrupted => Ok(Outcome::Held),
+            Err(error) => Err(error),
+        }
+    }
+
+    /// Reads what comes after the last bytes, which nobody wants, until the client has read them.
+    fn linger(&mut self) -> Outcome {
+        let mut piece = [0; 4096];
+        while self.readable || self.hung_up {
+            match (&self.stream).read(&mut piece) {
+                Ok(count) if count > 0 => {}
+                Err(error) if error.kind() == ErrorKind::WouldBlock => {
+                    self.readable = false;
+                    return Outcome::Waits;
+                }
+                Err(error) if error.kind() == ErrorKind::Interrupted => {}
+                _ => return Outcome::Gone,
+            }
+        }
+        Outcome::Waits
     }
 }

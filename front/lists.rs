@@ -2,7 +2,6 @@
 use std::fs;
 use std::io::ErrorKind;
 use std::os::unix::fs::MetadataExt;
-use std::sync::Mutex;
 
 /// What tells that a file is another one: its number, when it was changed last, and its length; none where it isn't there.
 type Stamp = Option<(u64, i64, i64, u64)>;
@@ -14,7 +13,7 @@ const ACCESS: &str = "access";
 /// The two files.
 pub struct Lists {
     folder: String,
-    seen: Mutex<Seen>,
+    seen: Seen,
 }
 
 /// What was seen of both.
@@ -32,24 +31,22 @@ impl Lists {
     pub fn new(folder: String) -> Lists {
         let now = stamps(&folder);
         let there = now.map(|stamp| stamp.is_some());
-        Lists { folder, seen: Mutex::new(Seen { read: now, last: now, there }) }
+        Lists { folder, seen: Seen { read: now, last: now, there } }
     }
 
     /// Reads both where one changed since they were read, and stays for a second: one that is being written isn't read yet.
-    pub fn changed(&self) -> Option<Result<Vec<u8>, String>> {
-        let mut seen = self.seen.lock().unwrap();
+    pub fn changed(&mut self) -> Option<Result<Vec<u8>, String>> {
         let now = stamps(&self.folder);
-        let stays = now == seen.last;
-        seen.last = now;
-        (stays && now != seen.read).then(|| read(&self.folder, &mut seen, now))
+        let stays = now == self.seen.last;
+        self.seen.last = now;
+        (stays && now != self.seen.read).then(|| read(&self.folder, &mut self.seen, now))
     }
 
     /// Reads both.
-    pub fn read(&self) -> Result<Vec<u8>, String> {
-        let mut seen = self.seen.lock().unwrap();
+    pub fn read(&mut self) -> Result<Vec<u8>, String> {
         let now = stamps(&self.folder);
-        seen.last = now;
-        read(&self.folder, &mut seen, now)
+        self.seen.last = now;
+        read(&self.folder, &mut self.seen, now)
     }
 }
 

@@ -1,15 +1,10 @@
 //! The slots of the connections: who has one, and who goes where there are none left.
-use crate::connection::Order;
-use std::net::{IpAddr, Ipv6Addr, Shutdown, TcpStream};
-use std::sync::mpsc::{Receiver, Sender, channel};
-use std::sync::{Arc, Condvar, Mutex, MutexGuard};
-use std::time::{Duration, Instant};
+use crate::connection::Connection;
+use std::collections::HashMap;
+use std::net::{IpAddr, Ipv6Addr};
 
 /// So many slots there are, as in the core.
-const SLOTS: usize = 512;
-
-/// So long it is waited for a free slot, before it is looked again who may go.
-const MOMENT: Duration = Duration::from_millis(20);
+pub const SLOTS: usize = 4096;
 
 /// Where a connection comes from: its address; of version 6 the first 64 bits, since one host may have all addresses that begin so.
 pub fn origin_of(address: IpAddr) -> IpAddr {
@@ -19,126 +14,95 @@ pub fn origin_of(address: IpAddr) -> IpAddr {
     }
 }
 
-/// A connection in its slot.
-struct Place {
-    /// Hands orders to its thread; none once the core has let it go.
-    orders: Option<Sender<Order>>,
-    /// None of that which only asks whether the core answers.
-    stream: Option<Arc<TcpStream>>,
-    origin: Option<IpAddr>,
-    /// Whether nothing of a request came since the last reply.
-    is_idle: bool,
-    /// Since when it is idle, or isn't.
-    since: Instant,
-    /// Whether it was told to go.
-    leaves: bool,
+/// Where a connection may come to.
+pub enum Place {
+    Free,
+    /// The slot of a connection that is to go for it.
+    InPlaceOf(usize),
+    /// Nobody may go, or somebody is about to: it waits.
+    Later,
+    /// Its origin has too many, of which none is idle.
+    Nowhere,
 }
-
-type Places = Vec<Option<Place>>;
 
 pub struct Slots {
-    places: Mutex<Places>,
-    freed: Condvar,
+    places: Vec<Option<Connection>>,
+    /// The slots that are free.
+    free: Vec<usize>,
+    /// How many connections are of an origin.
+    counts: HashMap<IpAddr, usize>,
     /// At most so many are of one origin.
     most: usize,
-}
-
-/// The slot that waits longest of those for which this holds.
-fn longest(places: &Places, holds: impl Fn(&Place) -> bool) -> Option<usize> {
-    let waiting = places.iter().enumerate().filter_map(|(slot, place)| Some((slot, place.as_ref()?)));
-    let waiting = waiting.filter(|(_, place)| place.stream.is_some() && holds(place));
-    waiting.min_by_key(|(_, place)| place.since).map(|(slot, _)| slot)
-}
-
-/// How many connections are of an origin.
-fn count_of(places: &Places, origin: Option<IpAddr>) -> usize {
-    places.iter().flatten().filter(|place| place.origin == origin).count()
-}
-
-/// Who goes for a connection of this origin: what is idle longest; and where nothing is, what of the origin with most connections is
-/// under way longest, if that has two more.
-fn who_goes(places: &Places, origin: Option<IpAddr>) -> Option<usize> {
-    longest(places, |place| place.is_idle).or_else(|| {
-        let crowd = places.iter().flatten().map(|place| place.origin).max_by_key(|other| count_of(places, *other))?;
-        let is_larger = count_of(places, crowd) > count_of(places, origin) + 1;
-        longest(places, |place| is_larger && place.origin == crowd)
-    })
 }
 
 impl Slots {
     /// Free slots, of which one origin may have so many.
     pub fn new(most: usize) -> Slots {
-        Slots { places: Mutex::new((0..SLOTS).map(|_| None).collect()), freed: Condvar::new(), most }
+        let places = (0..SLOTS).map(|_| None).collect();
+        Slots { places, free: (0..SLOTS).rev().collect(), counts: HashMap::new(), most }
     }
 
-    fn lock(&self) -> MutexGuard<'_, Places> {
-        self.places.lock().unwrap()
+    pub fn get(&mut self, slot: usize) -> Option<&mut Connection> {
+        self.places.get_mut(slot)?.as_mut()
     }
 
-    /// A slot for a connection; others may have to go for it. Where nobody may, peers wait in the kernel's queue. None where its origin
-    /// has too many, of which none is idle.
-    pub fn take(&self, stream: Option<Arc<TcpStream>>, origin: Option<IpAddr>) -> Option<(usize, Receiver<Order>)> {
-        let mut places = self.lock();
-        loop {
-            let is_crowd = origin.is_some() && count_of(&places, origin) >= self.most;
-            let free = places.iter().position(|place| place.is_none());
-            if let (false, Some(slot)) = (is_crowd, free) {
-                let (sender, receiver) = channel();
-                let orders = Some(sender);
-                places[slot] = Some(Place { orders, stream, origin, is_idle: false, since: Instant::now(), leaves: false });
-                return Some((slot, receiver));
-            }
-            if !places.iter().flatten().any(|place| place.leaves && (!is_crowd || place.origin == origin)) {
-                let goes = match is_crowd {
-                    true => Some(longest(&places, |place| place.is_idle && place.origin == origin)?),
-                    false => who_goes(&places, origin),
-                };
-                if let Some(Some(place)) = goes.map(|slot| &mut places[slot]) {
-                    place.leave();
-                }
-            }
-            places = self.freed.wait_timeout(places, MOMENT).unwrap().0;
+    /// The connections, with their slots.
+    pub fn all(&self) -> impl Iterator<Item = (usize, &Connection)> {
+        self.places.iter().enumerate().filter_map(|(slot, place)| Some((slot, place.as_ref()?)))
+    }
+
+    /// Puts a connection into a slot that is free; none where no slot is.
+    pub fn put(&mut self, connection: Connection) -> Option<usize> {
+        let slot = self.free.pop()?;
+        *self.counts.entry(connection.origin).or_default() += 1;
+        self.places[slot] = Some(connection);
+        Some(slot)
+    }
+
+    /// Takes a connection out of its slot, which is free then.
+    pub fn take(&mut self, slot: usize) -> Option<Connection> {
+        let connection = self.places.get_mut(slot)?.take()?;
+        self.free.push(slot);
+        let count = self.count_of(connection.origin);
+        match count > 1 {
+            true => self.counts.insert(connection.origin, count - 1),
+            false => self.counts.remove(&connection.origin),
+        };
+        Some(connection)
+    }
+
+    fn count_of(&self, origin: IpAddr) -> usize {
+        self.counts.get(&origin).copied().unwrap_or(0)
+    }
+
+    /// The slot of the connection that waits longest of those for which this holds.
+    fn longest(&self, holds: impl Fn(&Connection) -> bool) -> Option<usize> {
+        let waiting = self.all().filter(|(_, connection)| holds(connection));
+        waiting.min_by_key(|(_, connection)| connection.since()).map(|(slot, _)| slot)
+    }
+
+    /// Who goes for a connection of this origin: what is idle longest; and where nothing is, what of the origin with most connections is
+    /// under way longest, if that has two more.
+    fn who_goes(&self, origin: IpAddr) -> Option<usize> {
+        self.longest(Connection::is_idle).or_else(|| {
+            let (crowd, count) = self.counts.iter().max_by_key(|(_, count)| **count)?;
+            let is_larger = *count > self.count_of(origin) + 1;
+            self.longest(|connection| is_larger && connection.origin == *crowd)
+        })
+    }
+
+    /// Where a connection of this origin may come to.
+    pub fn place_for(&self, origin: IpAddr) -> Place {
+        let is_crowd = self.count_of(origin) >= self.most;
+        if !is_crowd && !self.free.is_empty() {
+            return Place::Free;
         }
-    }
-
-    pub fn free(&self, slot: usize) {
-        self.lock()[slot] = None;
-        self.freed.notify_one();
-    }
-
-    /// Hands an order to the connection in a slot; false where none is there that the core knows.
-    pub fn hand(&self, slot: usize, order: Order) -> bool {
-        match self.lock().get(slot) {
-            Some(Some(Place { orders: Some(orders), .. })) => orders.send(order).is_ok(),
-            _ => false,
+        if self.all().any(|(_, other)| other.leaves() && (!is_crowd || other.origin == origin)) {
+            return Place::Later;
         }
-    }
-
-    /// The core has let a connection go, which keeps its slot.
-    pub fn let_go(&self, slot: usize) {
-        if let Some(place) = &mut self.lock()[slot] {
-            place.orders = None;
-        }
-    }
-
-    /// Nothing is under way on a connection from now on, or something is. False where it was told to go.
-    pub fn set_idle(&self, slot: usize, is_idle: bool) -> bool {
-        match &mut self.lock()[slot] {
-            Some(place) => {
-                (place.is_idle, place.since) = (is_idle, Instant::now());
-                !place.leaves
-            }
-            None => false,
-        }
-    }
-}
-
-impl Place {
-    /// Tells it to go: what its thread waits for ends.
-    fn leave(&mut self) {
-        self.leaves = true;
-        if let Some(stream) = &self.stream {
-            let _ = stream.shutdown(Shutdown::Both);
+        match is_crowd {
+            true => self.longest(|other| other.is_idle() && other.origin == origin).map_or(Place::Nowhere, Place::InPlaceOf),
+            false => self.who_goes(origin).map_or(Place::Later, Place::InPlaceOf),
         }
     }
 }

@@ -51,11 +51,26 @@ server.bind = "127.0.0.1"
 server.port = {port}
 server.upload-dirs = ( "{folder}/locks" )
 server.errorlog = "{folder}/errors"
+server.max-keep-alive-requests = 65535
 server.modules = ( "mod_webdav", "mod_dirlisting" )
 dir-listing.activate = "enable"
 include_shell "/usr/share/lighttpd/create-mime.conf.pl"
 webdav.activate = "enable"
 webdav.sqlite-db-name = "{folder}/locks/db"
+"""
+NGINX = """
+daemon off;
+pid {folder}/pid;
+error_log {folder}/errors;
+user {user};
+worker_processes auto;
+events {{ worker_connections 4096; }}
+http {{
+    access_log off;
+    keepalive_requests 1000000000;
+    client_body_temp_path {folder}/locks;
+    server {{ listen 127.0.0.1:{port}; root {folder}/files; }}
+}}
 """
 
 
@@ -110,6 +125,14 @@ def lighttpd(folder):
         return "lighttpd: no /usr/sbin/lighttpd with mod_webdav"
     port = configured(folder, LIGHTTPD, pwd.getpwuid(os.getuid()).pw_name)
     return Program(port, ["/usr/sbin/lighttpd", "-D", "-f", f"{folder}/conf"])
+
+
+def nginx(folder):
+    """nginx, which gives files, or why there is none."""
+    if not os.path.exists("/usr/sbin/nginx"):
+        return "nginx: no /usr/sbin/nginx"
+    port = configured(folder, NGINX, pwd.getpwuid(os.getuid()).pw_name)
+    return Program(port, ["/usr/sbin/nginx", "-p", folder, "-c", f"{folder}/conf"])
 
 
 def rclone(folder):

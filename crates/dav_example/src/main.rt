@@ -2,6 +2,9 @@
 //! 9110; RFC 4918).
 #![tactic(auto)]
 
+ghost use Rattle.std.specs.Prelude.{IfOk};
+ghost use Rattle.dav_example.specs.Example.{IsAnswered};
+
 use anyhow::Result;
 use bytes::{Buf, Bytes};
 use dav_engine::Caller;
@@ -24,7 +27,10 @@ const PROPERTIES: &[u8] =
     b"<propfind xmlns='DAV:'><prop><getcontentlength/><getetag/></prop></propfind>";
 
 // The response to a request that anna makes in September 2001.
-fn answer(alloc: Global, server: &mut Handler, head: &[u8], body: Bytes) -> Result<Response> {
+fn answer(alloc: Global, server: &mut Handler, head: &[u8], body: Bytes) -> Result<Response>
+    ensures { IfOk result (λ response.
+        IsAnswered server.old.server head.now body response server.new.server) }
+{
     let caller = Caller {
         principal: Some("anna"),
         moment: 1_000_000_000,

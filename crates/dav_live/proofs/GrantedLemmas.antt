@@ -205,8 +205,8 @@ module _ {D : Type 0} (g : Ghosts D) (covered : Path → Bool) where
   greeted old new bytes both = still old new (state_of (kept_of old) (kept_of new) both.1) (ap (λ (a : AdmissionView). a.prefix) both.0)
 
   listed : (old new : S) (bytes : List ℕ) → IsListed old bytes new → Keeps old new
-  listed old new bytes (anew users rules reported admission same) = still old new (state_of (kept_of old) (kept_of new) same) (ap (λ (a : AdmissionView). a.prefix) admission)
-  listed old new bytes (refused fault faulty both) = stays old new both
+  listed old new bytes (anew users rules reported admission same logins) = still old new (state_of (kept_of old) (kept_of new) same) (ap (λ (a : AdmissionView). a.prefix) admission)
+  listed old new bytes (refused fault faulty both logins) = stays old new both
 
   passed : (old new : S) (seconds date : ℕ)
       → IsPassed IsAnswer (λ j. IsCleanPair g j) (λ j blocks. IsKeptPair g j blocks) (λ (s : Server) (now : ℕ) (head : Option (List ℕ)). IsNextEnd s.state.locks now head) old seconds date new → Keeps old new

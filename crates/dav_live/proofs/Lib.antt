@@ -16,3 +16,5 @@ mod GrantedLemmas
 mod ListsLemmas
 mod UnlockTexts
 mod RejectionLemmas
+mod PlainLemmas
+mod VerdictLemmas

@@ -16,8 +16,7 @@ use Rattle.dav_wire.specs.declared.answer.Rejection.{Rejection}
 use Rattle.dav_wire.specs.declared.answer.Rejection.TheVariants.{Unauthorized, Forbidden, UnsupportedMediaType, Misdirected, TooManyRequests, NotImplemented, Unavailable}
 use Rattle.dav_live.specs.Admission.{AdmissionView}
 use Rattle.dav_live.specs.Hosts.{value_of}
-use Rattle.dav_live.specs.Serving.{IsJudged, IsReplyTo, IsResponseTo, StaysAll, admission_of, heard, logins_of, told_to_wait}
-use Rattle.dav_live.specs.declared.service.Service.{Service}
+use Rattle.dav_live.specs.Serving.{IsReplyTo, IsResponseTo, heard, told_to_wait}
 use Rattle.dav_live.specs.Waiting.{HasToWait, IsAfterLogin, IsAfterVerdict, MayBeHeard, ShowsLogin, judged_else, judged_nobody, judged_wrong, seconds_of, showed_none, wait_fields, was_misdirected, was_right, was_wrong}
 
 -- the value of the field is one
@@ -134,11 +133,3 @@ verdict_seen (Ok v) a l r after verdict name password shows is wrong other =
       | inr else_ ↦ subst (IsAfterVerdict a l r verdict) (sym (other else_)) (judged_else else_)
     ])
 verdict_seen (Err e) a l r after verdict name password shows is wrong other = tt
-
--- ---- a head, as the answerer judges it
-
-pub judged_head : {H J E : Type 0} (old new : Service H J) (res : Result (Option Rejection) E) (head : List ℕ) (r : Request) → IsHead head r
-    → OnOk res (StaysAll old new) → IfOk res (λ v. IsAfterVerdict (admission_of old) (logins_of old) r v (logins_of new))
-    → IfOk res (λ v. IsJudged old head v new)
-judged_head old new (Ok v) head r is stays known = record { same = stays; login = inr (r, is, known) }
-judged_head old new (Err e) head r is stays known = tt

@@ -17,7 +17,7 @@ use Rattle.dav_live.specs.Runs.{GoesOn}
 use Rattle.dav_http.specs.Refused.{Tells}
 use Rattle.dav_http.specs.Uploaded.{BringsTime, time_body, time_head}
 use Rattle.dav_http.specs.declared.uploaded.TimeRequest.{TimeRequest}
-use Rattle.dav_live.specs.Serving.{EndsLocks, IsAccepted, IsEnded, IsPassed, IsResponseTo, IsRun, IsRunWhole, IsTimed, StaysAll, admission_of, belonging_to, run, answered, held_of, kept_of, one, own_request, not_run, told, untold, without_leave}
+use Rattle.dav_live.specs.Serving.{EndsLocks, IsAccepted, IsEnded, IsPassed, IsResponseTo, IsRun, IsRunWhole, IsTimed, StaysAll, admission_of, belonging_to, run, answered, held_of, kept_of, logins_of, one, own_request, not_run, told, untold, without_leave}
 use Rattle.dav_live.specs.declared.service.Service.{Service}
 
 module _ {S : Type 0} (answers : S → RequestView → Response → S → Type 0) where
@@ -68,13 +68,14 @@ at_none {A} {N} P o e m = subst (λ (t : Option A). MatchOption t N P) e m
 
 pub passed_later : {T E H J : Type 0} (answers : H → RequestView → Response → H → Type 0) (is_clean : J → Type 0) (kept : J → List (List ℕ) → Type 0)
     (ends : H → ℕ → Option (List ℕ) → Type 0) (r : Result T E) (old noted new : Service H J) (seconds date : ℕ) (a : AdmissionView)
-    → StaysAll old noted → a ≡ after_clocks (admission_of noted) seconds date
+    → StaysAll old noted → logins_of noted ≡ logins_of old → a ≡ after_clocks (admission_of noted) seconds date
     → OnOk r ((mid : Holding H) × EndsLocks answers ends a.moment (held_of noted) mid × IsEnded answers ends a.moment mid (held_of new))
-    → OnOk r (admission_of new ≡ a) → OnOk r (GoesOn answers is_clean kept (kept_of noted) (kept_of new)) → OnOk r (IsPassed answers is_clean kept ends old seconds date new)
-passed_later {T} {E} {H} {J} answers is_clean kept ends (Ok x) old noted new seconds date a stays later ended same goes =
+    → OnOk r (admission_of new ≡ a) → OnOk r (logins_of new ≡ logins_of noted) → OnOk r (GoesOn answers is_clean kept (kept_of noted) (kept_of new)) → OnOk r (IsPassed answers is_clean kept ends old seconds date new)
+passed_later {T} {E} {H} {J} answers is_clean kept ends (Ok x) old noted new seconds date a stays logins later ended same known goes =
     let moment : a.moment ≡ (admission_of new).moment = sym (ap (λ (v : AdmissionView). v.moment) same) in
     record {
       clocks = same ∙ later ∙ ap (λ (v : AdmissionView). after_clocks v seconds date) stays.0;
+      logins = known ∙ logins;
       ended = inr (
         ended.0,
         subst (λ (h : Holding H). EndsLocks answers ends (admission_of new).moment h ended.0) (ap (λ (k : Kept H J). held_by k) stays.1)
@@ -83,7 +84,7 @@ passed_later {T} {E} {H} {J} answers is_clean kept ends (Ok x) old noted new sec
       );
       goes_on = subst (λ (k : Kept H J). GoesOn answers is_clean kept k (kept_of new)) stays.1 goes;
     }
-passed_later answers is_clean kept ends (Err e) old noted new seconds date a stays later ended same goes = tt
+passed_later answers is_clean kept ends (Err e) old noted new seconds date a stays logins later ended same known goes = tt
 
 -- ---- a request that was admitted
 

@@ -15,8 +15,8 @@ use Rattle.dav_live.proofs.RunLemmas.{commits_runs, goes_on_runs, kept_runs, run
 
 module _ {H J : Type 0} (answers : H → RequestView → Response → H → Type 0) (saved : H → List ℕ) (is_saveable : H → Type 0) (is_clean : J → Type 0) (kept : J → List (List ℕ) → Type 0) where
   listed_runs : (old new : Service H J) (bytes : List ℕ) → IsListed old bytes new → RunGoesOn answers saved is_saveable is_clean kept (kept_of old) (kept_of new)
-  listed_runs old new bytes (anew users rules reported admission same) = same_runs answers saved is_saveable is_clean kept (kept_of old) (kept_of new) same
-  listed_runs old new bytes (refused fault faulty stays) = same_runs answers saved is_saveable is_clean kept (kept_of old) (kept_of new) stays.1
+  listed_runs old new bytes (anew users rules reported admission same logins) = same_runs answers saved is_saveable is_clean kept (kept_of old) (kept_of new) same
+  listed_runs old new bytes (refused fault faulty stays logins) = same_runs answers saved is_saveable is_clean kept (kept_of old) (kept_of new) stays.1
 
   -- what a live server does carries the run of its records on
   pub run_carries : (refuses : Option Rules → H → Request → RequestView → ℕ → Type 0) (ends : H → ℕ → Option (List ℕ) → Type 0)

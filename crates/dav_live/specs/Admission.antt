@@ -23,8 +23,9 @@ use Rattle.dav_live.specs.declared.admission.Reason.{Reason}
 use Rattle.dav_live.specs.declared.admission.Reason.TheVariants.{Misdirected, Unauthorized, Forbidden, TooLong, Outside, ReadOnly}
 
 -- What a server goes by: the prefix of its paths, the names of its host, the most seconds for which a lock is granted, whether a PROPFIND
--- without a Depth is left to the machine, whether requests may only read, its users, if it has a list of them, the rules of access, if it has any, the moment, in seconds
--- since 1970, the seconds that the front's steady clock told last, if it did, and the random bytes of its tokens.
+-- without a Depth is left to the machine, whether requests may only read, its users, if it has a list of them, the rules of access, if it
+-- has any, the moment, in seconds since 1970, the seconds that the front's steady clock told last, if it did, and the random bytes of its
+-- tokens.
 pub record AdmissionView : Type 0 where
   pub prefix : List ℕ
   pub hosts : List (List ℕ)

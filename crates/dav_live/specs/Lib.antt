@@ -5,6 +5,7 @@ pub mod Lists
 pub mod Rejections
 pub mod Admission
 pub mod Waiting
+pub mod Verdicts
 pub mod Runs
 pub mod Serving
 pub mod Answers

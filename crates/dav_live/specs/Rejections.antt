@@ -1,5 +1,5 @@
 -- Which requests aren't taken, by their heads alone (RFC 9110, section 15.5).
-use Rattle.std.specs.Prelude.{◌≡◌, ◌≢◌, ◌⊎◌, ◌≤◌, ℕ, Bool, true, false, List, ◌++◌, IfSome, Option, Some, None, Ok, codes}
+use Rattle.std.specs.Prelude.{◌≡◌, ◌≢◌, ◌⊎◌, ◌≤◌, ◌<◌, ◌+◌, ℕ, Bool, true, false, List, ◌++◌, IfSome, Option, Some, None, Ok, codes, drop, get_or, length, take}
 use Rattle.dav_core.specs.declared.method.DavMethod.{DavMethod}
 use Rattle.dav_core.specs.declared.method.DavMethod.TheVariants.{Put, Patch, PropFind, PropPatch, Lock as LockMethod}
 use Rattle.dav_headers.specs.Cut.{IsCut}
@@ -44,6 +44,20 @@ takes_body PropFind = true
 takes_body PropPatch = true
 takes_body LockMethod = true
 takes_body _ = false
+
+-- A request is a GET or HEAD, and states no body (RFC 9110, sections 8.6, 9.3.1 and 9.3.2; RFC 9112, section 6.3).
+pub record IsPlainRead (r : Request) : Type 0 where
+  pub method : (r.method ≡ codes "GET") ⊎ (r.method ≡ codes "HEAD")
+  pub no_length : value_of (codes "content-length") r ≡ None
+  pub no_coding : value_of (codes "transfer-encoding") r ≡ None
+
+-- bytes begin with this name, in letters of either case (RFC 9110, section 5.1)
+abbrev pub BeginsWithName : List ℕ → List ℕ → Type 0
+BeginsWithName bytes name = is_same_name (take (length name) bytes) name ≡ true
+
+-- a line of a head, after the first one, begins with this name (RFC 9112, sections 2.2 and 5)
+abbrev pub HasLine : List ℕ → List ℕ → Type 0
+HasLine head name = (k : ℕ) × (k < length head) × (get_or head k 0 ≡ 10) × BeginsWithName (drop (k + 1) head) name
 
 -- ---- which aren't taken
 

@@ -18,6 +18,8 @@ use Rattle.dav_wire.specs.declared.answer.Rejection.{Rejection}
 use Rattle.dav_live.specs.Admission.{AdmissionView, HasLeaveIn, IsRequestOf, IsTurnedAway, after_clocks, challenge_fields, refusal_fields, status_of, with_random}
 use Rattle.dav_live.specs.Lists.{IsFaulty, Reports}
 use Rattle.dav_live.specs.Runs.{Commits, GoesOn, Saves, StaysKept}
+use Rattle.dav_live.specs.Rejections.{IsPlainRead}
+use Rattle.dav_live.specs.Verdicts.{IsVerdict}
 use Rattle.dav_live.specs.declared.admission.Reason.{Reason}
 use Rattle.dav_live.specs.declared.lists.ListsError.{ListsError}
 use Rattle.dav_live.specs.Waiting.{HasToWait, IsAfterLogin, IsAfterVerdict, MayBeHeard, wait_fields}
@@ -122,11 +124,16 @@ pub record Serves {H J : Type 0} (answers : H → RequestView → Response → H
 abbrev pub StaysAll : {H J : Type 0} → Service H J → Service H J → Type 0
 StaysAll old new = (admission_of new ≡ admission_of old) × (kept_of new ≡ kept_of old)
 
--- A request isn't taken, by its head alone, or may go on: what the service goes by stays, and a login is noted that was wrong.
+-- What is said of these bytes as the head of a request, before its body is taken, and what is known of logins then. All is left to the
+-- answer where they are no head, or that of a GET or HEAD without a body; else there is a verdict, and a login is noted that was wrong.
+pub data IsSaid (a : AdmissionView) (l : LoginsView) (head : List ℕ) (verdict : Option Rejection) (after : LoginsView) : Type 0 where
+  left : ((r : Request) → IsHead head r → IsPlainRead r) → verdict ≡ None → after ≡ l → IsSaid a l head verdict after
+  judged : (r : Request) → IsHead head r → IsVerdict a l r verdict → IsAfterVerdict a l r verdict after → IsSaid a l head verdict after
+
+-- A request isn't taken, by its head alone, or may go on: what the service goes by stays.
 pub record IsJudged {H J : Type 0} (old : Service H J) (head : List ℕ) (verdict : Option Rejection) (new : Service H J) : Type 0 where
   pub same : StaysAll old new
-  pub login : ((verdict ≡ None) × (logins_of new ≡ logins_of old))
-      ⊎ ((r : Request) × IsHead head r × IsAfterVerdict (admission_of old) (logins_of old) r verdict (logins_of new))
+  pub said : IsSaid (admission_of old) (logins_of old) head verdict (logins_of new)
 
 -- the requests that follow come from this address
 abbrev pub IsPlaced : {H J : Type 0} → Service H J → List ℕ → Service H J → Type 0
@@ -136,13 +143,15 @@ IsPlaced old address new = StaysAll old new × (logins_of new ≡ record (logins
 abbrev pub IsGreeted : {H J : Type 0} → Service H J → List ℕ → Service H J → Type 0
 IsGreeted old bytes new =
     (admission_of new ≡ record (admission_of old) { random = with_random bytes (admission_of old).random })
-    × (kept_of new ≡ kept_of old)
+    × (kept_of new ≡ kept_of old) × (logins_of new ≡ logins_of old)
 
--- The list of users or the rules were written anew. Both are as they are reported; or, where one is at fault, both are as they were.
+-- The list of users or the rules were written anew. Both are as they are reported; or, where one is at fault, both are as they were. What is
+-- known of logins stays, though the lists are others: a login that was right is checked by them all the same, and just doesn't wait for that.
 pub data IsListed {H J : Type 0} (old : Service H J) (bytes : List ℕ) (new : Service H J) : Type 0 where
   anew : (users : UserList) (rules : Option Rules) → Reports bytes users rules
-      → admission_of new ≡ record (admission_of old) { users = users; rules = rules } → kept_of new ≡ kept_of old → IsListed old bytes new
-  refused : (fault : ListsError) → IsFaulty bytes fault → StaysAll old new → IsListed old bytes new
+      → admission_of new ≡ record (admission_of old) { users = users; rules = rules } → kept_of new ≡ kept_of old
+      → logins_of new ≡ logins_of old → IsListed old bytes new
+  refused : (fault : ListsError) → IsFaulty bytes fault → StaysAll old new → logins_of new ≡ logins_of old → IsListed old bytes new
 
 -- ---- locks end
 
@@ -171,6 +180,7 @@ pub data IsEnded {S : Type 0} (answers : S → RequestView → Response → S �
 pub record IsPassed {H J : Type 0} (answers : H → RequestView → Response → H → Type 0) (is_clean : J → Type 0)
     (kept : J → List (List ℕ) → Type 0) (ends : H → ℕ → Option (List ℕ) → Type 0) (old : Service H J) (seconds date : ℕ) (new : Service H J) : Type 0 where
   pub clocks : admission_of new ≡ after_clocks (admission_of old) seconds date
+  pub logins : logins_of new ≡ logins_of old
   pub ended : (((admission_of new).moment ≡ (admission_of old).moment) × (kept_of new ≡ kept_of old))
       ⊎ ((mid : Holding H) × EndsLocks answers ends (admission_of new).moment (held_of old) mid
       × IsEnded answers ends (admission_of new).moment mid (held_of new))
@@ -182,6 +192,7 @@ pub record IsPassed {H J : Type 0} (answers : H → RequestView → Response →
 pub record IsMarked {H J : Type 0} (saved : H → List ℕ) (is_saveable : H → Type 0) (is_clean : J → Type 0)
     (kept : J → List (List ℕ) → Type 0) (old new : Service H J) : Type 0 where
   pub same : admission_of new ≡ admission_of old
+  pub logins : logins_of new ≡ logins_of old
   pub keeps : StaysKept is_clean kept (kept_of old) (kept_of new) ⊎ Saves saved is_saveable is_clean kept (kept_of old) (kept_of new)
 
 -- all that was answered is kept

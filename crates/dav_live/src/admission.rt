@@ -5,12 +5,12 @@ ghost use Rattle.dav_core.specs.declared.errors.DavError.TheVariants.{IllegalPat
 ghost use Rattle.dav_live.specs.Admission.{HasManySlashes, IsOutside, IsTokenFor, challenge_fields, reason_for, refusal_fields, slashes_in, status_of};
 ghost use Rattle.dav_live.specs.declared.admission.RefusedRequest.{RefusedRequest as RefusedValue};
 
+mod judging;
 mod login;
 
 use crate::clock::moment_after;
 use crate::hosts::is_for;
 use crate::lists::{Lists, ListsError, texts_in};
-use crate::rejection::{may_be_long, rejection_of};
 use crate::settings::Settings;
 use crate::token::token_text;
 use bytes::Bytes;
@@ -21,7 +21,7 @@ use dav_core::method::DavMethod;
 use dav_http::{Head, is_lock, is_safe};
 use dav_server::exchange::LAST_MOMENT;
 use dav_server::target::path_of;
-use dav_wire::{Rejection, Stop};
+use dav_wire::Stop;
 use http::StatusCode;
 use http_header::{HeaderValue, WWW_AUTHENTICATE};
 use http_server::Response;
@@ -367,44 +367,6 @@ impl Admission {
             token,
             only_reads: is_safe(head.method()),
         })
-    }
-
-    /// Why a request isn't taken, by its head alone, and the user that it says to be of. Nothing changes.
-    pub fn judge(&mut self, head: &Head<'_>) -> Result<Option<(Rejection, String)>, Stop>
-        ensures { self.new ≡ self.old }
-    {
-        match rejection_of(head, &self.settings.hosts) {
-            Some(why) => Ok(Some((why, String::new(self.alloc)))),
-            None if may_be_long(head) => self.judge_sender(head),
-            None => Ok(None),
-        }
-    }
-
-    // Judges who makes a request, and whether that has leave (RFC 9110, sections 15.5.2 and 15.5.4).
-    fn judge_sender(&mut self, head: &Head<'_>) -> Result<Option<(Rejection, String)>, Stop>
-        ensures { self.new ≡ self.old }
-    {
-        match self.principal_of(head) {
-            Ok(principal) => self.judge_leave(principal, head),
-            Err(Refusal::Unknown(shown)) => Ok(Some((Rejection::Unauthorized, shown))),
-            Err(Refusal::Memory) => Err(Stop::Memory),
-        }
-    }
-
-    // Judges whether a request has leave, of this user.
-    fn judge_leave(
-        &self,
-        principal: Option<String>,
-        head: &Head<'_>,
-    ) -> Result<Option<(Rejection, String)>, Stop> {
-        let kept = self.kept_of(head)?;
-        if self.has_leave(principal.as_deref(), &kept)? {
-            return Ok(None);
-        }
-        match principal {
-            Some(user) => Ok(Some((Rejection::Forbidden, user))),
-            None => Ok(Some((Rejection::Unauthorized, String::new(self.alloc)))),
-        }
     }
 
     /// Takes the random bytes of the front, the first sixteen.

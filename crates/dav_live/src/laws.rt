@@ -4,6 +4,7 @@ ghost use Rattle.dav_live.specs.Granted.{LivesAreSound, RepliesStayInGrants, Tur
 ghost use Rattle.dav_live.specs.Life.{FirstDaysBegin, RestartsChangeNothing, RestartsGoOn, RunsAreTheMachines};
 ghost use Rattle.dav_live.specs.LifePromises.{LivesKeepPromises};
 ghost use Rattle.dav_live.specs.Tokens.{TokensDiffer};
+ghost use Rattle.dav_live.specs.Verdicts.{PlainReadsMayGoOn};
 
 use dav_kept::Keeps;
 use sqlite_disk::Disk;
@@ -17,6 +18,11 @@ pub fn tokens_differ()
 /// 4918, section 6.6).
 pub fn clocks_dont_jump()
     ensures { ClocksDontJump }
+{}
+
+/// What is left to the answer, of the heads that are judged, may go on but where it has to wait (RFC 9110, section 15.5).
+pub fn plain_reads_may_go_on()
+    ensures { PlainReadsMayGoOn }
 {}
 
 /// A start goes on with what was: two servers over the same snapshot and blocks, with the same batch, hold the same.

@@ -1,8 +1,9 @@
 //! Which requests aren't taken, by their heads alone (RFC 9110, section 15.5).
-ghost use Rattle.std.specs.Prelude.{◌≡◌, ◌≢◌, ◌≤◌, ℕ, None, Ok, codes, map, string_bytes};
+ghost use Rattle.std.specs.Prelude.{◌≡◌, ◌≢◌, ◌≤◌, ◌⊎◌, ℕ, IsTrue, None, Ok, codes, map, string_bytes, take};
 ghost use Rattle.std.specs.Bool.{Decides};
 ghost use Rattle.dav_core.specs.declared.method.DavMethod.{DavMethod as DavMethodValue};
 ghost use Rattle.dav_headers.specs.Value.{Decodes, IsNumber};
+ghost use Rattle.dav_server.specs.Head.{IsHead, Request};
 ghost use Rattle.dav_server.specs.Method.{GivesServed};
 ghost use Rattle.dav_live.specs.Hosts.{value_of};
 ghost use Rattle.dav_live.specs.Rejections as spec;
@@ -17,22 +18,48 @@ use std::str;
 /// The most bytes of a body that are taken of nobody who is known.
 const MOST_UNKNOWN: u64 = 65_536;
 
-// Whether a line of a head is a field with this name (RFC 9112, section 5).
-fn is_field(line: &[u8], name: &[u8]) -> bool {
-    match line.get(..name.len()) {
+// Whether bytes begin with this name, in letters of either case.
+fn begins_with(bytes: &[u8], name: &[u8]) -> bool
+    ensures { Decides result (spec.BeginsWithName bytes.now name.now) }
+{
+    match bytes.get(..name.len()) {
         Some(front) => front.eq_ignore_ascii_case(name),
         None => false,
     }
 }
 
+// Whether a line of a head, after the first one, begins with this name, in letters of either case (RFC 9112, section 5).
+fn has_line(head: &[u8], name: &[u8]) -> bool
+    ensures { Decides result (spec.HasLine head.now name.now) }
+{
+    for (i, byte) in head.iter().enumerate() {
+        if *byte == b'\n' && begins_with(&head[i + 1..], name) {
+            return true;
+        }
+    }
+    false
+}
+
+// Whether the bytes of a head begin with the name of a method that asks for a representation, and a space.
+fn begins_to_read(head: &[u8]) -> bool
+    ensures { Decides result
+        ((take 4 head.now ≡ codes "GET ") ⊎ (take 5 head.now ≡ codes "HEAD ")) }
+{
+    head.starts_with(b"GET ") || head.starts_with(b"HEAD ")
+}
+
 /// Whether the bytes of a head are of a GET or HEAD without a body, which is left to the answer: so the usual request isn't read
 /// twice. False may be said of such a one too.
-pub fn is_plain_read(head: &[u8]) -> bool {
-    let reads = head.starts_with(b"GET ") || head.starts_with(b"HEAD ");
-    reads
-        && !head.split(|b| *b == b'\n').any(|line| {
-            is_field(line, b"content-length") || is_field(line, b"transfer-encoding")
-        })
+pub fn is_plain_read(head: &[u8]) -> bool
+    ensures { IsTrue result → (r : Request) → IsHead head.now r → spec.IsPlainRead r }
+{
+    if has_line(head, b"content-length") {
+        return false;
+    }
+    if has_line(head, b"transfer-encoding") {
+        return false;
+    }
+    begins_to_read(head)
 }
 
 // The number that digits write, below 2^64. `parse` would take a plus sign before them.

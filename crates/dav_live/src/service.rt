@@ -165,6 +165,7 @@ impl<H: Ends + Drop, J: Keeps + Drop> Service<H, J> {
     // Lets the journal begin anew with a snapshot, where it takes more than so many bytes and twice what it took at the last one.
     pub(super) fn shorten(&mut self, least: usize) -> Result<(), KeptError>
         ensures same { admission_of self.new ≡ admission_of self.old }
+        ensures logins { logins_of self.new ≡ logins_of self.old }
         ensures keeps { OnOk result (StaysKept J.is_clean J.kept (kept_of self.old)
             (kept_of self.new)
             ⊎ Saves H.saved H.is_saveable J.is_clean J.kept (kept_of self.old)

@@ -1,5 +1,5 @@
 -- Where the counts say that no lock matters to a path, none does; and where they say that at most one does, no two do.
-use Rattle.std.proofs.Common.{◌≡◌, ℕ, ◌+◌, zero, suc, ◌≤◌, ◌<◌, ◌&&◌, ◌||◌, Bool, true, false, cond, List, [], ◌∷◌, ◌++◌, length, get_or, Option, Some, None, inl, inr, refl, sym, ap, subst, ◌∙◌, arith}
+use Rattle.std.proofs.Common.{◌≡◌, ℕ, ◌+◌, zero, suc, ◌≤◌, ◌<◌, ◌&&◌, ◌||◌, Bool, true, false, cond, List, [], ◌∷◌, ◌++◌, length, get_or, Option, Some, None, inl, inr, refl, sym, ap, subst, ◌∙◌, arith, append_assoc, append-nil}
 use Rattle.std.specs.List.{list_any}
 use Rattle.std.specs.Option.{is_some}
 use Rattle.std.proofs.lemmas.List.Sums.{sum_by-cons}
@@ -47,6 +47,13 @@ module _ (count : Key → ℕ) where
   deep_counted : (n : Path) → AreCounted count (keys_from true n []) → 1 ≤ count (deep_key n)
   deep_counted n h = first_counted (deep_key n) [] (others_counted (at_key n) (deep_key n ∷ []) (others_counted (below_key n) (at_key n ∷ deep_key n ∷ []) h))
 
+  -- the key of its own path is counted
+  pub seated_on : (deep : Bool) (n : Path) (p : Path) → AreCounted count (keys_from deep n p) → 1 ≤ count (at_key (n ++ p))
+  seated_on deep n [] h = subst (λ (q : Path). 1 ≤ count (at_key q)) (sym (append-nil n)) (at_counted deep n h)
+  seated_on deep n (x ∷ p) h =
+      subst (λ (q : Path). 1 ≤ count (at_key q)) (append_assoc n (x ∷ []) p)
+      (seated_on deep (n ++ x ∷ []) p (others_counted (below_key n) (keys_from deep (n ++ x ∷ []) p) h))
+
   -- a lock on the path
   on_path : (asked deep : Bool) (n : Path) (p : Path) → AreCounted count (keys_from deep n p) → 1 ≤ weight_from count asked n p
   on_path true deep n [] h = below_counted deep n [] h
@@ -87,7 +94,7 @@ module _ (count : Key → ℕ) where
   mattering_by false l p h false covering m = cc
 
 -- how many locks have a key, of this one
-abbrev of_one : Lock → Key → ℕ
+abbrev pub of_one : Lock → Key → ℕ
 of_one l k = times k (path_keys l.deep (names l.path))
 
 -- and of a list

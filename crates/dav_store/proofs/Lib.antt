@@ -43,6 +43,7 @@ pub mod ListedMembers
 pub mod PathLengths
 pub mod IndexLemmas
 pub mod IndexSound
+pub mod SeatedLemmas
 pub mod IndexCalls
 pub mod SeatLemmas
 pub mod SavedCalls

@@ -181,37 +181,6 @@ fn only_one<'a>(
     }
 }
 
-// Whether a lock has this token and is on the first so many names of a path.
-fn is_named(lock: &DavLock, path: &DavPath, token: &str, len: usize) -> bool
-    ensures { result ≡ (bytes_eq lock.now.token token.now
-        && is_same_path (names lock.now.path) (take len (names path.now))) }
-{
-    lock.token.as_str() == token && paths::is_front(&lock.path, path, len)
-}
-
-// The place of the first lock that has this token and is on the first so many names of a path.
-fn named_at(locks: &[Kept], path: &DavPath, token: &str, len: usize) -> Option<usize>
-    ensures { result ≡ position
-        (λ l. bytes_eq l.token token.now && is_same_path (names l.path) (take len (names path.now)))
-        locks.now }
-{
-    locks
-        .iter()
-        .position(|l| is_named(l.lock(), path, token, len))
-}
-
-// The place of the lock that a token and a path mean.
-fn named_place(locks: &[Kept], path: &DavPath, token: &str) -> Option<usize>
-    ensures { IsNamedPlace token.now (names path.now) locks.now result }
-{
-    for len in 0..=paths::count(path) {
-        if let Some(i) = named_at(locks, path, token, len) {
-            return Some(i);
-        }
-    }
-    None
-}
-
 // Drops the locks at a path and below it.
 fn drop_below(locks: &mut Vec<Kept>, path: &Sought<'_>)
     ensures { locks.new.items ≡ deleted (names path.now) locks.old.items }
@@ -308,17 +277,28 @@ fn new_lock(alloc: Global, asked: &LockRequest<'_>) -> Result<DavLock, NoMemory>
 }
 
 // Puts a copy of a lock after the others, by the grant of this number, and returns the lock.
-fn keep(locks: &mut Vec<Kept>, lock: DavLock, grant: u64) -> Result<DavLock, NoMemory>
+fn keep(
+    alloc: Global,
+    locks: &mut Vec<Kept>,
+    lock: DavLock,
+    grant: u64,
+) -> Result<DavLock, NoMemory>
     ensures ok { IfOk result (λ l. (l ≡ lock) × (locks.new.items ≡ locks.old.items ++ l ∷ [])) }
     ensures err { OnErr result (locks.new.items ≡ locks.old.items) }
 {
     let copy = lock.clone()?;
-    locks.push(Kept::new(copy, grant))?;
+    locks.push(Kept::new(alloc, copy, grant)?)?;
     Ok(lock)
 }
 
 // Takes the lock that a token and a path mean out of the list.
-fn unlock_in(locks: &mut Vec<Kept>, path: &DavPath, token: &str) -> Result<DavLock, ()>
+fn unlock_in(
+    locks: &mut Vec<Kept>,
+    index: &Option<Counts>,
+    path: &DavPath,
+    token: &str,
+) -> Result<DavLock, ()>
+    requires { IsIndexOf index.now locks.now.items }
     ensures ok { OnOk result (unlocked token.now (names path.now) locks.old.items
         ≡ Some locks.new.items) }
     ensures keys { IfOk result (λ l. (k : Key) → tally k locks.old.items
@@ -326,7 +306,7 @@ fn unlock_in(locks: &mut Vec<Kept>, path: &DavPath, token: &str) -> Result<DavLo
     ensures err { OnErr result ((unlocked token.now (names path.now) locks.old.items ≡ None)
         × (locks.new.items ≡ locks.old.items)) }
 {
-    match named_place(locks, path, token) {
+    match index::named_place(index, locks, path, token) {
         None => Err(()),
         Some(i) => Ok(locks.remove(i).into_lock()),
     }
@@ -335,12 +315,14 @@ fn unlock_in(locks: &mut Vec<Kept>, path: &DavPath, token: &str) -> Result<DavLo
 // Gives the lock that a token and a path mean a new timeout, and returns a copy of it.
 fn refresh_in(
     locks: &mut Vec<Kept>,
+    index: &Option<Counts>,
     path: &DavPath,
     token: &str,
     timeout: Option<u64>,
     now: u64,
 ) -> Result<DavLock, RefreshRefusal>
-    requires { IfSome timeout (λ seconds. now + seconds ≤ max_u64) }
+    requires timeout { IfSome timeout (λ seconds. now + seconds ≤ max_u64) }
+    requires index { IsIndexOf index.now locks.now.items }
     ensures ok { IfOk result (λ lock.
         (option_map (refreshed_lock timeout now)
         (named_lock token.now (names path.now) locks.old.items) ≡ Some lock)
@@ -351,7 +333,7 @@ fn refresh_in(
     ensures same { OnErr result (locks.new.items ≡ locks.old.items) }
     ensures keys { (k : Key) → tally k locks.new.items ≡ tally k locks.old.items }
 {
-    let Some(i) = named_place(locks, path, token) else {
+    let Some(i) = index::named_place(index, locks, path, token) else {
         return Err(RefreshRefusal::NotThere);
     };
     let Ok(mut lock) = locks[i].lock().clone() else {
@@ -475,7 +457,7 @@ impl DavLockSystem for MemLs {
         let Ok(lock) = new_lock(alloc, &asked) else {
             return Err(LockRefusal::Memory);
         };
-        let Ok(lock) = keep(&mut self.locks, lock, self.next) else {
+        let Ok(lock) = keep(alloc, &mut self.locks, lock, self.next) else {
             return Err(LockRefusal::Memory);
         };
         index::raise(alloc, &mut self.index, path, deep, self.next);
@@ -484,7 +466,7 @@ impl DavLockSystem for MemLs {
     }
 
     fn unlock(&mut self, path: &DavPath, token: &str) -> Result<(), ()> {
-        let lock = unlock_in(&mut self.locks, path, token)?;
+        let lock = unlock_in(&mut self.locks, &self.index, path, token)?;
         index::lower(&mut self.index, &lock.path, lock.deep);
         Ok(())
     }
@@ -497,7 +479,7 @@ impl DavLockSystem for MemLs {
         timeout: Option<u64>,
         now: u64,
     ) -> Result<DavLock, RefreshRefusal> {
-        refresh_in(&mut self.locks, path, token, timeout, now)
+        refresh_in(&mut self.locks, &self.index, path, token, timeout, now)
     }
 
     fn check(

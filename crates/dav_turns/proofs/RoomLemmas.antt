@@ -117,6 +117,6 @@ module _ {S : Type 0} (k : Keeping S) (config : TurnsConfig) where
 
 pub bodies_fit : {S : Type 0} (k : Keeping S) → BodiesFit k
 bodies_fit k = record {
-  first = λ config. none_held 512;
+  first = λ config. none_held 4096;
   always = λ config events old new orders few h. happens_fit k config events old new orders few h;
 }

@@ -261,6 +261,6 @@ pub record Turn {S : Type 0} (k : Keeping S) (input : List ℕ) (used : ℕ) (ol
 abbrev pub orders_after : List ℕ → List Order → List ℕ
 orders_after before orders = before ++ flat_map order_bytes orders
 
--- 512 free slots
+-- 4,096 free slots
 abbrev pub new_turns : TurnsConfig → TurnsView
-new_turns config = record { config = config; slots = replicate 512 None }
+new_turns config = record { config = config; slots = replicate 4096 None }

@@ -15,7 +15,7 @@ use crate::keeper::{Keeper, TurnError};
 use std::alloc::{AllocError, Global};
 
 /// At most so many connections are open.
-const MOST_SLOTS: usize = 512;
+const MOST_SLOTS: usize = 4096;
 
 /// The connections by their slots, and what new ones are made with.
 #[derive(Drop)]

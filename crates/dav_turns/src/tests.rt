@@ -80,7 +80,7 @@ opened 2 5 a ; gone 2 6 ; opened 2 7 b ; got 2 8 GET /x HTTP/1.1^Host: h^^ -> at
 opened 2 5 a ; got 2 6 GET ; gone 2 6 ; opened 2 7 b ; got 2 8 GET /x HTTP/1.1^Host: h^^ -> at 5, at 6, from a, at 6, at 7, at 8, from b, GET /x, commit -> 2 read  ; 2 head  ; 2 read  ; 2 read HTTP/1.1 200 OK^content-length: 7^^GET /x|
 
 # what doesn't fit
-opened 512 5 a -> ! Pipe
+opened 4096 5 a -> ! Pipe
 opened 2 5 a ; opened 2 5 b -> ! Pipe
 got 2 5 GET -> ! Pipe
 sent 2 5 -> ! Pipe

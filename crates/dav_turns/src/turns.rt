@@ -32,7 +32,7 @@ impl Model for Turns {
 }
 
 impl Turns {
-    /// No connections, in 512 slots, with these limits for each that comes.
+    /// No connections, in 4,096 slots, with these limits for each that comes.
     pub fn new(alloc: Global, config: TurnsConfig) -> Result<Turns, AllocError>
         ensures { IfOk result (λ t. t ≡ new_turns config) }
     {

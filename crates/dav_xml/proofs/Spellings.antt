@@ -1,5 +1,5 @@
 -- The spelling of a tree, by its parts.
-use Rattle.std.proofs.Common.{◌≡◌, ℕ, ◌+◌, ◌<◌, ◌≤◌, length, map, drop, get_or, arith, Bool, true, false, ◌==◌, List, [], ◌∷◌, ◌++◌, Option, refl, sym, ap, ◌∙◌, append_assoc}
+use Rattle.std.proofs.Common.{◌≡◌, ℕ, ◌+◌, ◌<◌, ◌≤◌, length, map, drop, get_or, arith, Bool, true, false, ◌==◌, List, [], ◌∷◌, ◌++◌, Option, None, refl, sym, ap, ◌∙◌, append_assoc, cond, if◌then◌else◌}
 use Rattle.std.proofs.lemmas.Bool.{eq-eqb, eqb-true}
 use Rattle.std.proofs.lemmas.List.{append-nil, drop_more, nil_from_length, length-drop}
 use Rattle.dav_core.specs.declared.element.XmlNode.{XmlNode}
@@ -9,6 +9,8 @@ use Rattle.dav_core.specs.Element.{ElementTree, ElementTrees, element, text, no_
 use Rattle.dav_xml.specs.Spelling.{escaped, spelling, spellings}
 use Rattle.dav_xml.specs.Flat.{flat, flats}
 use Rattle.dav_xml.specs.Bytes.{is_space}
+use Rattle.dav_xml.specs.Scopes.{Scope}
+use Rattle.dav_xml.specs.Written.{declared_too, is_in_scope, name_with, or_empty, wanted, written, written_after}
 use Rattle.std.specs.List.{list_all}
 
 pub spellings_append : (ts us : List Markup) → spellings (ts ++ us) ≡ spellings ts ++ spellings us
@@ -56,39 +58,69 @@ element_pushed a b c d name name1 name2 prefix namespace attributes attributes1 
     ed ∙ ap (λ (x : List ℕ). c ++ x) closing ∙ ap (λ (x : List ℕ). x ++ s3) (ec ∙ ap (λ (x : List ℕ). x ++ s2) (eb ∙ ap (λ (x : List ℕ). a ++ x) opening))
     ∙ append_assoc (a ++ s1) s2 s3 ∙ append_assoc a s1 (s2 ++ s3) ∙ ap (λ (x : List ℕ). a ++ x) (sym (element_spelled name prefix namespace attributes t ts))
 
-pub child_turn : (before now all : List ℕ) (items : List XmlNode) (i : ℕ) (x : XmlNode) → i < length items → x ≡ get_or items i x → now ≡ before ++ spellings (flat (node_tree x))
-    → before ++ spellings (flats (trees (map node_tree (drop i items)))) ≡ all → now ++ spellings (flats (trees (map node_tree (drop (i + 1) items)))) ≡ all
-child_turn before now all items i x lt is e so_far =
+-- trees as they are written, one for one
+abbrev pub each : Scope → ElementTrees → List ElementTree
+each scope no_trees = []
+each scope (tree_then t ts) = written scope t ∷ each scope ts
+
+written_each : (scope : Scope) (made : List ElementTree) (ts : ElementTrees) → written_after scope made ts ≡ made ++ each scope ts
+written_each scope made no_trees = sym (append-nil made)
+written_each scope made (tree_then t ts) = written_each scope (made ++ written scope t ∷ []) ts ∙ append_assoc made (written scope t ∷ []) (each scope ts)
+
+-- the children of an element, as they are written in a scope
+abbrev pub children_in : Scope → List XmlNode → ElementTrees
+children_in scope items = trees (each scope (trees (map node_tree items)))
+
+pub children_are : (scope : Scope) (items : List XmlNode) → children_in scope items ≡ trees (written_after scope [] (trees (map node_tree items)))
+children_are scope items = ap trees (sym (written_each scope [] (trees (map node_tree items))))
+
+pub child_turn : (scope : Scope) (before now all : List ℕ) (items : List XmlNode) (i : ℕ) (x : XmlNode) → i < length items → x ≡ get_or items i x → now ≡ before ++ spellings (flat (written scope (node_tree x)))
+    → before ++ spellings (flats (children_in scope (drop i items))) ≡ all → now ++ spellings (flats (children_in scope (drop (i + 1) items))) ≡ all
+child_turn scope before now all items i x lt is e so_far =
     let split : drop i items ≡ x ∷ drop (i + 1) items = drop_more items i x lt ∙ ap (λ (y : XmlNode). y ∷ drop (i + 1) items) (sym is) in
-    child_pushed [] before now (node_tree x) (trees (map node_tree (drop (i + 1) items))) all e (ap (λ (ys : List XmlNode). before ++ spellings (flats (trees (map node_tree ys)))) (sym split) ∙ so_far)
+    child_pushed [] before now (written scope (node_tree x)) (children_in scope (drop (i + 1) items)) all e (ap (λ (ys : List XmlNode). before ++ spellings (flats (children_in scope ys))) (sym split) ∙ so_far)
 
-pub all_pushed : (before all : List ℕ) (items : List XmlNode) (i : ℕ) → length items ≤ i → before ++ spellings (flats (trees (map node_tree (drop i items)))) ≡ all → before ≡ all
-all_pushed before all items i le so_far =
+pub all_pushed : (scope : Scope) (before all : List ℕ) (items : List XmlNode) (i : ℕ) → length items ≤ i → before ++ spellings (flats (children_in scope (drop i items))) ≡ all → before ≡ all
+all_pushed scope before all items i le so_far =
     let nil : drop i items ≡ [] = nil_from_length (drop i items) (omega (arith, length-drop i items)) in
-    ended before all (ap (λ (ys : List XmlNode). before ++ spellings (flats (trees (map node_tree ys)))) (sym nil) ∙ so_far)
+    ended before all (ap (λ (ys : List XmlNode). before ++ spellings (flats (children_in scope ys))) (sym nil) ∙ so_far)
 
--- by the list of children
-pub with_children_pushed : (a b c d name name1 name2 : List ℕ) (prefix namespace : Option (List ℕ)) (attributes attributes1 : List (List ℕ × List ℕ)) (items : List XmlNode) → (length items ≡ 0 → ⊥)
-    → name1 ≡ name → name2 ≡ name → attributes1 ≡ attributes
-    → b ≡ a ++ spelling (opens name1 attributes1) → c ≡ b ++ spellings (flats (trees (map node_tree items))) → d ≡ c ++ spelling (closes name2)
-    → d ≡ a ++ spellings (flat (element name prefix namespace attributes (trees (map node_tree items))))
-with_children_pushed a b c d name name1 name2 prefix namespace attributes attributes1 [] ne e1 e2 e3 eb ec ed = absurd (ne refl)
-with_children_pushed a b c d name name1 name2 prefix namespace attributes attributes1 (x ∷ xs) ne e1 e2 e3 eb ec ed =
-    element_pushed a b c d name name1 name2 prefix namespace attributes attributes1 (node_tree x) (trees (map node_tree xs)) e1 e2 e3 eb ec ed
+-- the tags of an element that has children, or of one that has none
+abbrev pub begins : Bool → List ℕ → List (List ℕ × List ℕ) → List ℕ
+begins is_empty name attributes = spelling (if is_empty then empty name attributes else opens name attributes)
 
-pub without_pushed : (a b name name1 : List ℕ) (prefix namespace : Option (List ℕ)) (attributes attributes1 : List (List ℕ × List ℕ)) (items : List XmlNode) → length items ≡ 0
-    → name1 ≡ name → attributes1 ≡ attributes → b ≡ a ++ spelling (empty name1 attributes1)
-    → b ≡ a ++ spellings (flat (element name prefix namespace attributes (trees (map node_tree items))))
-without_pushed a b name name1 prefix namespace attributes attributes1 (x ∷ xs) e e1 e3 eb = absurd (omega (arith, e))
-without_pushed a b name name1 prefix namespace attributes attributes1 [] e e1 e3 eb =
-    eb ∙ ap (λ (n : List ℕ). a ++ spelling (empty n attributes1)) e1 ∙ ap (λ (xs : List (List ℕ × List ℕ)). a ++ spelling (empty name xs)) e3
-    ∙ ap (λ (bs : List ℕ). a ++ bs) (sym (one_spelled (empty name attributes)))
+abbrev pub closing : Bool → List ℕ → List ℕ
+closing is_empty name = if is_empty then [] else spelling (closes name)
 
--- whether there are children, as the code tests it
-pub empty_by : (xs ys : List XmlNode) (r : Bool) → xs ≡ ys → r ≡ (length xs == 0) → r ≡ true → length ys ≡ 0
-empty_by xs ys r e t is = ap length (sym e) ∙ eqb-true (length xs) 0 (sym t ∙ is)
+none_spelled : spellings [] ≡ []
+unfolding spellings
+none_spelled = refl
 
-pub some_by : (xs ys : List XmlNode) (r : Bool) → xs ≡ ys → r ≡ (length xs == 0) → r ≡ false → length ys ≡ 0 → ⊥
-some_by xs ys r e t is zero =
-    let both : false ≡ true = sym is ∙ t ∙ eq-eqb (length xs) 0 (ap length e ∙ zero) in
-    absurd cc
+by_tags : (scope : Scope) (a b c d name : List ℕ) (attributes : List (List ℕ × List ℕ)) (items : List XmlNode) (is_empty : Bool) → is_empty ≡ (length items == 0)
+    → b ≡ a ++ begins is_empty name attributes → c ≡ b ++ spellings (flats (children_in scope items)) → d ≡ c ++ closing is_empty name
+    → d ≡ a ++ spellings (flat (element name None None attributes (children_in scope items)))
+by_tags scope a b c d name attributes [] true e eb ec ed =
+    ed ∙ append-nil c ∙ ec ∙ ap (λ (bs : List ℕ). b ++ bs) none_spelled ∙ append-nil b ∙ eb ∙ ap (λ (bs : List ℕ). a ++ bs) (sym (one_spelled (empty name attributes)))
+by_tags scope a b c d name attributes [] false e eb ec ed =
+    let both : false ≡ true = e ∙ eq-eqb 0 0 refl in absurd cc
+by_tags scope a b c d name attributes (x ∷ xs) true e eb ec ed =
+    let zero = eqb-true (length (x ∷ xs)) 0 (sym e) in absurd (omega (arith, zero))
+by_tags scope a b c d name attributes (x ∷ xs) false e eb ec ed =
+    element_pushed a b c d name name name None None attributes attributes (written scope (node_tree x)) (children_in scope xs) refl refl refl eb ec ed
+
+-- an element, by its tags and its children
+pub by_parts : (scope : Scope) (a b c d name : List ℕ) (attributes : List (List ℕ × List ℕ)) (items : List XmlNode) (is_empty : Bool) → is_empty ≡ (length items == 0)
+    → b ≡ a ++ begins is_empty name attributes → c ≡ b ++ spellings (flats (trees (written_after scope [] (trees (map node_tree items))))) → d ≡ c ++ closing is_empty name
+    → d ≡ a ++ spellings (flat (element name None None attributes (trees (written_after scope [] (trees (map node_tree items))))))
+by_parts scope a b c d name attributes items is_empty e eb ec ed =
+    by_tags scope a b c d name attributes items is_empty e eb (ec ∙ ap (λ (ts : ElementTrees). b ++ spellings (flats ts)) (sym (children_are scope items))) ed
+    ∙ ap (λ (ts : ElementTrees). a ++ spellings (flat (element name None None attributes ts))) (children_are scope items)
+
+-- an element without attributes whose prefix has its namespace already is written as it is
+pub written_as_it_is : (scope : Scope) (name : List ℕ) (prefix namespace : Option (List ℕ)) (attributes : List (List ℕ × List ℕ)) (children : ElementTrees) → attributes ≡ []
+    → is_in_scope scope (or_empty prefix) (wanted scope (or_empty prefix) namespace) ≡ true
+    → element (name_with (or_empty prefix) name) None None attributes (trees (written_after scope [] children)) ≡ written scope (element name prefix namespace attributes children)
+written_as_it_is scope name prefix namespace (a ∷ more) children e is = cc
+written_as_it_is scope name prefix namespace [] children e is =
+    ap (λ b. element (name_with (or_empty prefix) name) None None (cond b ([], scope) (declared_too scope (or_empty prefix) (wanted scope (or_empty prefix) namespace) [])).0
+    (trees (written_after (cond b ([], scope) (declared_too scope (or_empty prefix) (wanted scope (or_empty prefix) namespace) [])).1 [] children))) (sym is)

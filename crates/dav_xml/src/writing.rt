@@ -1,14 +1,15 @@
-//! Trees with names as they are written, as bytes.
-ghost use Rattle.std.specs.Prelude.{◌≡◌, ◌++◌, ◌∷◌, [], map, OnOk, IfOk};
+//! Element trees as bytes, with names as they are written.
+ghost use Rattle.std.specs.Prelude.{◌≡◌, ◌++◌, ◌∷◌, [], map, OnOk, IfOk, if◌then◌else◌};
 ghost use Rattle.dav_core.specs.ElementView.{attribute_bytes};
 ghost use Rattle.dav_xml.specs.Token.{opens, empty, closes};
 ghost use Rattle.dav_core.specs.Element.{trees};
 ghost use Rattle.dav_core.specs.ElementView.{node_tree};
 ghost use Rattle.dav_xml.specs.Spelling as spec;
-ghost use Rattle.dav_xml.specs.Flat.{flat, flats, tree_spelling};
-ghost use Rattle.dav_xml.specs.Written.{declaration, document_of};
+ghost use Rattle.dav_xml.specs.Flat.{flats, tree_spelling};
+ghost use Rattle.dav_xml.specs.Scopes.{pair_bytes};
+ghost use Rattle.dav_xml.specs.Written.{document_of, name_with, written, written_after};
 
-use crate::written::written;
+use crate::written::{is_placed, namespace_of, place_of, prefix_of};
 use dav_core::element::{Element, XmlNode};
 use std::alloc::{AllocError, Global};
 
@@ -30,7 +31,7 @@ fn push_byte(out: &mut Vec<u8>, byte: u8, attribute: bool) -> Result<(), AllocEr
     } else if attribute && byte == b'\t' {
         out.extend_from_slice(b"&#9;")
     } else {
-        out.extend_from_slice(&[byte])
+        Ok(out.push(byte)?)
     }
 }
 
@@ -67,90 +68,112 @@ fn push_attributes(out: &mut Vec<u8>, attributes: &[(String, String)]) -> Result
     Ok(())
 }
 
-fn push_open(
+// Adds a name with its prefix.
+fn push_name(out: &mut Vec<u8>, prefix: &str, name: &str) -> Result<(), AllocError>
+    ensures { OnOk result (out.new.items ≡ out.old.items ++ name_with prefix.now name.now) }
+{
+    if !prefix.is_empty() {
+        out.extend_from_slice(prefix.as_bytes())?;
+        out.push(b':')?;
+    }
+    out.extend_from_slice(name.as_bytes())
+}
+
+// Adds the tag with which an element begins; of one without children it is the whole element.
+fn push_begin(
     out: &mut Vec<u8>,
+    prefix: &str,
     name: &str,
     attributes: &[(String, String)],
+    is_empty: bool,
 ) -> Result<(), AllocError>
-    ensures { OnOk result (out.new.items ≡ out.old.items
-        ++ spec.spelling (opens name.now (map attribute_bytes attributes.now))) }
+    ensures { OnOk result (out.new.items ≡ out.old.items ++ spec.spelling
+        (if is_empty then empty (name_with prefix.now name.now) (map attribute_bytes attributes.now)
+        else opens (name_with prefix.now name.now) (map attribute_bytes attributes.now))) }
 {
-    out.extend_from_slice(b"<")?;
-    out.extend_from_slice(name.as_bytes())?;
+    out.push(b'<')?;
+    push_name(out, prefix, name)?;
     push_attributes(out, attributes)?;
-    out.extend_from_slice(b">")
+    if is_empty {
+        out.extend_from_slice(b"/>")
+    } else {
+        Ok(out.push(b'>')?)
+    }
 }
 
-fn push_empty(
-    out: &mut Vec<u8>,
-    name: &str,
-    attributes: &[(String, String)],
-) -> Result<(), AllocError>
+// Adds the tag with which an element ends that has children.
+fn push_end(out: &mut Vec<u8>, prefix: &str, name: &str, is_empty: bool) -> Result<(), AllocError>
     ensures { OnOk result (out.new.items ≡ out.old.items
-        ++ spec.spelling (empty name.now (map attribute_bytes attributes.now))) }
+        ++ (if is_empty then [] else spec.spelling (closes (name_with prefix.now name.now)))) }
 {
-    out.extend_from_slice(b"<")?;
-    out.extend_from_slice(name.as_bytes())?;
-    push_attributes(out, attributes)?;
-    out.extend_from_slice(b"/>")
-}
-
-fn push_close(out: &mut Vec<u8>, name: &str) -> Result<(), AllocError>
-    ensures { OnOk result (out.new.items ≡ out.old.items ++ spec.spelling (closes name.now)) }
-{
-    out.extend_from_slice(b"</")?;
-    out.extend_from_slice(name.as_bytes())?;
-    out.extend_from_slice(b">")
-}
-
-/// Writes a tree with its names as they are written.
-#[cycle(writes)]
-fn push_element(out: &mut Vec<u8>, element: &Element) -> Result<(), AllocError>
-    ensures { OnOk result (out.new.items ≡ out.old.items ++ spec.spellings (flat element.now)) }
-{
-    let name = element.name.as_str();
-    let attributes = element.attributes.as_slice();
-    if element.children.as_slice().is_empty() {
-        push_empty(out, name, attributes)?;
+    if is_empty {
         return Ok(());
     }
-    push_open(out, name, attributes)?;
-    push_children(out, &element.children)?;
-    push_close(out, name)?;
+    out.extend_from_slice(b"</")?;
+    push_name(out, prefix, name)?;
+    Ok(out.push(b'>')?)
+}
+
+// Adds a tree, with its names as they are written in a scope.
+#[cycle(writes)]
+fn push_element<'e>(
+    alloc: Global,
+    out: &mut Vec<u8>,
+    scope: &[(&'e [u8], &'e str)],
+    tree: &'e Element,
+) -> Result<(), AllocError>
+    ensures { OnOk result (out.new.items
+        ≡ out.old.items ++ tree_spelling (written (map pair_bytes scope.now) tree.now)) }
+{
+    let prefix = prefix_of(&tree.prefix);
+    let name = tree.name.as_str();
+    let namespace = namespace_of(&tree.namespace);
+    let attributes = tree.attributes.as_slice();
+    let is_empty = tree.children.as_slice().is_empty();
+    if attributes.is_empty() && is_placed(scope, prefix, namespace) {
+        push_begin(out, prefix, name, attributes, is_empty)?;
+        push_children(alloc, out, scope, &tree.children)?;
+        push_end(out, prefix, name, is_empty)?;
+        return Ok(());
+    }
+    let place = place_of(alloc, scope, prefix, namespace, attributes)?;
+    push_begin(out, prefix, name, &place.attributes, is_empty)?;
+    push_children(alloc, out, &place.scope, &tree.children)?;
+    push_end(out, prefix, name, is_empty)?;
     Ok(())
 }
 
 #[cycle(writes)]
-#[tactic(auto, using(crate::proofs::Spellings::children_spelled, crate::proofs::Spellings::ended))]
-fn push_children(out: &mut Vec<u8>, children: &Vec<XmlNode>) -> Result<(), AllocError>
-    ensures { OnOk result (out.new.items ≡ out.old.items
-        ++ spec.spellings (flats (trees (map node_tree children.now.items)))) }
+fn push_children<'e>(
+    alloc: Global,
+    out: &mut Vec<u8>,
+    scope: &[(&'e [u8], &'e str)],
+    children: &'e Vec<XmlNode>,
+) -> Result<(), AllocError>
+    ensures { OnOk result (out.new.items ≡ out.old.items ++ spec.spellings (flats (trees
+        (written_after (map pair_bytes scope.now) [] (trees (map node_tree children.now.items)))))) }
 {
     for child in children {
-        push_node(out, child)?;
+        push_node(alloc, out, scope, child)?;
     }
     Ok(())
 }
 
 #[cycle(writes)]
 #[tactic(auto, using(crate::proofs::Spellings::text_spelled))]
-fn push_node(out: &mut Vec<u8>, node: &XmlNode) -> Result<(), AllocError>
-    ensures { OnOk result (out.new.items ≡ out.old.items ++ tree_spelling (node_tree node.now)) }
+fn push_node<'e>(
+    alloc: Global,
+    out: &mut Vec<u8>,
+    scope: &[(&'e [u8], &'e str)],
+    node: &'e XmlNode,
+) -> Result<(), AllocError>
+    ensures { OnOk result (out.new.items
+        ≡ out.old.items ++ tree_spelling (written (map pair_bytes scope.now) (node_tree node.now))) }
 {
     match node {
-        XmlNode::Element(element) => push_element(out, element),
+        XmlNode::Element(element) => push_element(alloc, out, scope, element),
         XmlNode::Text(text) => push_escaped(out, text, false),
     }
-}
-
-// The bytes of a tree with names as they are written, behind the declaration.
-fn write_raw(alloc: Global, tree: &Element) -> Result<Vec<u8>, AllocError>
-    ensures { IfOk result (λ v. v.items ≡ declaration ++ spec.spellings (flat tree.now)) }
-{
-    let mut out = Vec::new(alloc);
-    out.extend_from_slice(b"<?xml version=\"1.0\" encoding=\"utf-8\"?>\n")?;
-    push_element(&mut out, tree)?;
-    Ok(out)
 }
 
 /// The document of an element tree, in UTF-8 (XML 1.0; Namespaces in XML 1.0). `Err` where memory runs out.
@@ -160,6 +183,8 @@ fn write_raw(alloc: Global, tree: &Element) -> Result<Vec<u8>, AllocError>
 pub fn write(alloc: Global, tree: &Element) -> Result<Vec<u8>, AllocError>
     ensures { IfOk result (λ v. v.items ≡ document_of tree.now) }
 {
-    let raw = written(alloc, &[], tree)?;
-    write_raw(alloc, &raw)
+    let mut out = Vec::new(alloc);
+    out.extend_from_slice(b"<?xml version=\"1.0\" encoding=\"utf-8\"?>\n")?;
+    push_element(alloc, &mut out, &[], tree)?;
+    Ok(out)
 }

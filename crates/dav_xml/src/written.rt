@@ -1,22 +1,20 @@
-//! Element trees with their names as they are written, and the declarations that these need (Namespaces in XML 1.0, sections 3
-//! and 6).
-ghost use Rattle.std.specs.Prelude.{◌≡◌, [], None, map, option_map, string_bytes, IfOk};
-ghost use Rattle.dav_core.specs.Element.{element, trees, xmlns_name};
-ghost use Rattle.dav_core.specs.ElementView.{attribute_bytes, node_tree};
+//! Where elements are written: with which attributes, and what is declared within them (Namespaces in XML 1.0, sections 3 and 6).
+ghost use Rattle.std.specs.Prelude.{◌≡◌, [], map, option_map, string_bytes, IfOk};
+ghost use Rattle.dav_core.specs.Element.{xmlns_name};
+ghost use Rattle.dav_core.specs.ElementView.{attribute_bytes};
 ghost use Rattle.dav_xml.specs.Scopes.{pair_bytes};
 ghost use Rattle.dav_xml.specs.PlaceView.{place_view};
 ghost use Rattle.dav_xml.specs.Written as spec;
 
 use crate::bytes::after_text;
 use crate::scope::uri_of;
-use dav_core::element::{Element, XmlNode};
 use std::alloc::{AllocError, Global};
 
-// The attributes of an element as they are written, and what is declared within it.
+/// The attributes of an element as they are written, and what is declared within it.
 #[derive(Drop)]
-struct Place<'e> {
-    attributes: Vec<(String, String)>,
-    scope: Vec<(&'e [u8], &'e str)>,
+pub struct Place<'e> {
+    pub attributes: Vec<(String, String)>,
+    pub scope: Vec<(&'e [u8], &'e str)>,
 }
 
 // The prefix that an attribute of this name declares, as bytes.
@@ -96,19 +94,6 @@ fn wanted<'e>(scope: &[(&'e [u8], &'e str)], prefix: &str, namespace: Option<&'e
         Some(uri) => uri,
         None => known(prefix),
     }
-}
-
-// A name with its prefix.
-fn name_with(alloc: Global, prefix: &str, name: &str) -> Result<String, AllocError>
-    ensures { IfOk result (λ s. string_bytes s ≡ spec.name_with prefix.now name.now) }
-{
-    if prefix.is_empty() {
-        return String::from_str(alloc, name);
-    }
-    let mut whole = String::from_str(alloc, prefix)?;
-    whole.push_str(":")?;
-    whole.push_str(name)?;
-    Ok(whole)
 }
 
 // The name of the attribute that declares a prefix.
@@ -221,7 +206,8 @@ fn placed<'e>(
     declared_too(alloc, scope, prefix, uri, attributes)
 }
 
-fn place_of<'e>(
+/// Where an element of this name and these attributes is written, in a scope.
+pub fn place_of<'e>(
     alloc: Global,
     scope: &[(&'e [u8], &'e str)],
     prefix: &'e str,
@@ -236,8 +222,8 @@ fn place_of<'e>(
     placed(alloc, inner, prefix, uri, attributes)
 }
 
-// The prefix of a name; empty for none.
-fn prefix_of(prefix: &Option<String>) -> &str
+/// The prefix of a name; empty for none.
+pub fn prefix_of(prefix: &Option<String>) -> &str
     ensures { result.now ≡ spec.or_empty (option_map string_bytes prefix.now) }
 {
     match prefix {
@@ -246,7 +232,8 @@ fn prefix_of(prefix: &Option<String>) -> &str
     }
 }
 
-fn namespace_of(namespace: &Option<String>) -> Option<&str>
+/// The namespace of a name, if it has one of its own.
+pub fn namespace_of(namespace: &Option<String>) -> Option<&str>
     ensures { option_map (λ u. u.now) result ≡ option_map string_bytes namespace.now }
 {
     match namespace {
@@ -255,75 +242,11 @@ fn namespace_of(namespace: &Option<String>) -> Option<&str>
     }
 }
 
-fn made(
-    alloc: Global,
-    prefix: &str,
-    name: &str,
-    attributes: Vec<(String, String)>,
-    children: Vec<XmlNode>,
-) -> Result<Element, AllocError>
-    ensures { IfOk result (λ e. e ≡ element (spec.name_with prefix.now name.now) None None
-        (map attribute_bytes attributes.items) (trees (map node_tree children.items))) }
+/// Whether a prefix has the namespace that an element's name has to have, where the element has no attributes.
+pub fn is_placed(scope: &[(&[u8], &str)], prefix: &str, namespace: Option<&str>) -> bool
+    ensures { result ≡ spec.is_in_scope (map pair_bytes scope.now) prefix.now
+        (spec.wanted (map pair_bytes scope.now) prefix.now
+        (option_map (λ u. u.now) namespace.entry)) }
 {
-    let name = name_with(alloc, prefix, name)?;
-    Ok(Element {
-        name,
-        prefix: None,
-        namespace: None,
-        attributes,
-        children,
-    })
-}
-
-/// The tree with its names as they are written, in a scope.
-#[cycle(spells)]
-pub fn written<'e>(
-    alloc: Global,
-    scope: &[(&'e [u8], &'e str)],
-    tree: &'e Element,
-) -> Result<Element, AllocError>
-    ensures { IfOk result (λ e. e ≡ spec.written (map pair_bytes scope.now) tree.now) }
-{
-    let prefix = prefix_of(&tree.prefix);
-    let place = place_of(
-        alloc,
-        scope,
-        prefix,
-        namespace_of(&tree.namespace),
-        &tree.attributes,
-    )?;
-    let Place { attributes, scope } = place;
-    let children = written_children(alloc, &scope, &tree.children)?;
-    made(alloc, prefix, &tree.name, attributes, children)
-}
-
-#[cycle(spells)]
-fn written_children<'e>(
-    alloc: Global,
-    scope: &[(&'e [u8], &'e str)],
-    children: &'e Vec<XmlNode>,
-) -> Result<Vec<XmlNode>, AllocError>
-    ensures { IfOk result (λ v. map node_tree v.items ≡ spec.written_after
-        (map pair_bytes scope.now) [] (trees (map node_tree children.now.items))) }
-{
-    let mut made = Vec::new(alloc);
-    for child in children {
-        made.push(written_node(alloc, scope, child)?)?;
-    }
-    Ok(made)
-}
-
-#[cycle(spells)]
-fn written_node<'e>(
-    alloc: Global,
-    scope: &[(&'e [u8], &'e str)],
-    node: &'e XmlNode,
-) -> Result<XmlNode, AllocError>
-    ensures { IfOk result (λ n. node_tree n
-        ≡ spec.written (map pair_bytes scope.now) (node_tree node.now)) }
-{
-    match node {
-        XmlNode::Element(element) => { Ok(XmlNode::Element(written(alloc, scope, element)?)) }
-        XmlNode::Text(text) => Ok(XmlNode::Text(text.clone()?)),
-    }
+    is_in_scope(scope, prefix, wanted(scope, prefix, namespace))
 }

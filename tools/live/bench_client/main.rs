@@ -3,11 +3,13 @@
 //!     client PORT put|get CONNECTIONS WARM MEASURED     files of 1,024 bytes; WARM and MEASURED are milliseconds
 //!     client PORT all|four CONNECTIONS WARM MEASURED    PROPFIND of Depth 1 of /list/: all properties, or four by name
 //!     client PORT middle|part CONNECTIONS WARM MEASURED  a file of 65,536 bytes, or as many of /large, which has 100,000,000, from 100 places
+//!     client PORT beside CONNECTIONS WARM MEASURED      small files, while one more connection lists all properties of /listed/
 //!     client PORT up|down BYTES                         one file of so many bytes
 //!     client PORT hollow                                a server that answers each request alike: what client and kernel can do
 //!
-//! Prints `ANSWERED SECONDS IN_ALL`: requests answered while it measured, for how long, and with those of the warming up; of
-//! up and down `BYTES SECONDS BYTES`. A reply that isn't as it should be ends it with status 1.
+//! Prints `ANSWERED SECONDS IN_ALL MIDDLE LATE`: requests answered while it measured, for how long, and with those of the warming up; and in how many
+//! microseconds the half of them was answered, and 99 of 100. Of up and down `BYTES SECONDS BYTES 0 0`. A reply that isn't as it should be
+//! ends it with status 1.
 #![forbid(unsafe_code)]
 
 use std::io::{self, Read, Write};
@@ -165,7 +167,8 @@ fn requests(what: &str, connection: usize) -> Vec<Vec<u8>> {
     let path = |file: usize| format!("/files/{connection}-{file}");
     match what {
         "put" => (0..FILES).map(|file| request("PUT", &path(file), "", &[b'a' + (file % 26) as u8; SIZE])).collect(),
-        "get" => (0..FILES).map(|file| request("GET", &path(file), "", b"")).collect(),
+        "get" | "beside" => (0..FILES).map(|file| request("GET", &path(file), "", b"")).collect(),
+        "listed" => vec![request("PROPFIND", "/listed/", "Depth: 1\r\n", b"")],
         "middle" => vec![request("GET", "/files/middle", "", b"")],
         "part" => (0..FILES).map(|place| request("GET", "/large", &part(place * 1_000_000), b"")).collect(),
         "all" => vec![request("PROPFIND", "/list/", "Depth: 1\r\n", b"")],
@@ -177,59 +180,74 @@ fn requests(what: &str, connection: usize) -> Vec<Vec<u8>> {
 fn is_right(what: &str, said: &Said) -> bool {
     match what {
         "put" => (200..205).contains(&said.status),
-        "get" => *said == Said { status: 200, length: SIZE },
+        "get" | "beside" => *said == Said { status: 200, length: SIZE },
         "middle" => *said == Said { status: 200, length: MIDDLE },
         "part" => *said == Said { status: 206, length: MIDDLE },
         _ => said.status == 207 && said.length > 100_000,
     }
 }
 
-/// Sends requests on one connection until it is stopped: how many were answered after the warming up, and in all.
-fn drive(port: u16, what: &str, connection: usize, warm: &AtomicBool, stop: &AtomicBool, all: &Barrier) -> io::Result<(u64, u64)> {
+/// When connections count what is answered, and when they stop.
+struct Phases {
+    warm: AtomicBool,
+    stop: AtomicBool,
+    all: Barrier,
+}
+
+/// What a connection counted: in how many microseconds each request was answered after the warming up, and how many in all.
+struct Counted {
+    times: Vec<u32>,
+    total: u64,
+}
+
+/// Sends requests on one connection until it is stopped.
+fn drive(port: u16, what: &str, connection: usize, phases: &Phases) -> io::Result<Counted> {
     let mut link = Link::open(port)?;
     let list = requests(what, connection);
-    let (mut measured, mut total) = (0, 0);
-    all.wait();
+    let mut counted = Counted { times: Vec::new(), total: 0 };
+    phases.all.wait();
     for bytes in list.iter().cycle() {
-        let counts = warm.load(Ordering::Relaxed);
-        if stop.load(Ordering::Relaxed) {
+        let counts = phases.warm.load(Ordering::Relaxed);
+        if phases.stop.load(Ordering::Relaxed) {
             break;
         }
+        let begin = Instant::now();
         let said = link.ask(bytes)?;
         if !is_right(what, &said) {
             return Err(wrong(&format!("{what} was answered {} with {} bytes", said.status, said.length)));
         }
-        total += 1;
-        measured += u64::from(counts && !stop.load(Ordering::Relaxed));
+        counted.total += 1;
+        if counts && !phases.stop.load(Ordering::Relaxed) {
+            counted.times.push(begin.elapsed().as_micros() as u32);
+        }
     }
-    Ok((measured, total))
+    Ok(counted)
 }
 
 fn measure(port: u16, what: &'static str, connections: usize, warming: Duration, measuring: Duration) -> io::Result<()> {
-    let (warm, stop) = (Arc::new(AtomicBool::new(false)), Arc::new(AtomicBool::new(false)));
-    let all = Arc::new(Barrier::new(connections + 1));
-    let threads: Vec<_> = (0..connections)
-        .map(|connection| {
-            let (warm, stop, all) = (warm.clone(), stop.clone(), all.clone());
-            thread::spawn(move || {
-                drive(port, what, connection, &warm, &stop, &all).unwrap_or_else(|error| fail(&error.to_string()))
-            })
-        })
-        .collect();
-    all.wait();
+    let listers = usize::from(what == "beside");
+    let phases = Phases { warm: AtomicBool::new(false), stop: AtomicBool::new(false), all: Barrier::new(connections + listers + 1) };
+    let phases = Arc::new(phases);
+    let begun = |what: &'static str, connection| {
+        let phases = phases.clone();
+        thread::spawn(move || drive(port, what, connection, &phases).unwrap_or_else(|error| fail(&error.to_string())))
+    };
+    let threads: Vec<_> = (0..connections).map(|connection| begun(what, connection)).collect();
+    let others: Vec<_> = (0..listers).map(|connection| begun("listed", connection)).collect();
+    phases.all.wait();
     thread::sleep(warming);
-    warm.store(true, Ordering::Relaxed);
+    phases.warm.store(true, Ordering::Relaxed);
     let begin = Instant::now();
     thread::sleep(measuring);
-    stop.store(true, Ordering::Relaxed);
+    phases.stop.store(true, Ordering::Relaxed);
     let seconds = begin.elapsed().as_secs_f64();
-    let (mut measured, mut total) = (0, 0);
-    for thread in threads {
-        let (counted, answered) = thread.join().unwrap();
-        measured += counted;
-        total += answered;
-    }
-    println!("{measured} {seconds:.6} {total}");
+    let counted: Vec<Counted> = threads.into_iter().map(|thread| thread.join().unwrap()).collect();
+    others.into_iter().for_each(|thread| drop(thread.join()));
+    let mut times: Vec<u32> = counted.iter().flat_map(|one| one.times.iter().copied()).collect();
+    times.sort_unstable();
+    let total: u64 = counted.iter().map(|one| one.total).sum();
+    let time = |percent: usize| times.get((times.len() * percent / 100).min(times.len().saturating_sub(1))).copied().unwrap_or(0);
+    println!("{} {seconds:.6} {total} {} {}", times.len(), time(50), time(99));
     Ok(())
 }
 
@@ -245,7 +263,7 @@ fn move_large(port: u16, up: bool, size: usize) -> io::Result<()> {
     if !right {
         return Err(wrong(&format!("the large file was answered {} with {} bytes", said.status, said.length)));
     }
-    println!("{size} {seconds:.6} {size}");
+    println!("{size} {seconds:.6} {size} 0 0");
     Ok(())
 }
 
@@ -287,7 +305,7 @@ fn main() {
 }
 
 fn usage() -> ! {
-    fail("usage: client PORT put|get|all|four|middle|part CONNECTIONS WARM MEASURED, client PORT up|down BYTES, client PORT hollow")
+    fail("usage: client PORT put|get|all|four|middle|part|beside CONNECTIONS WARM MEASURED, client PORT up|down BYTES, client PORT hollow")
 }
 
 fn fail(what: &str) -> ! {

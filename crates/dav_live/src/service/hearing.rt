@@ -18,7 +18,7 @@ impl<H: Ends + Drop, J: Keeps + Drop> Service<H, J> {
     ghost use Rattle.http_server.specs.declared.response.Response.{Response as Sent};
     ghost use Rattle.dav_kept.specs.Kept.{Holding};
     ghost use Rattle.dav_live.specs.Runs.{GoesOn};
-    ghost use Rattle.dav_live.specs.Serving.{EndsLocks, IsEnded, IsListed, IsMarked, IsRun, StaysAll, admission_of, held_of, kept_of, own_request};
+    ghost use Rattle.dav_live.specs.Serving.{EndsLocks, IsEnded, IsListed, IsMarked, IsRun, StaysAll, admission_of, held_of, kept_of, logins_of, own_request};
 
     // Ends the first lock whose time has passed, by a request of the server's own. False where there is none, where there is no
     // room on the disk, and where the request isn't answered 204 (RFC 4918, section 9.11).
@@ -31,6 +31,7 @@ impl<H: Ends + Drop, J: Keeps + Drop> Service<H, J> {
         ensures last { IfOk result (λ is. IsFalse is → IsEnded H.answers H.ends
             (admission_of self.old).moment (held_of self.old) (held_of self.new)) }
         ensures same { OnOk result (admission_of self.new ≡ admission_of self.old) }
+        ensures logins { OnOk result (logins_of self.new ≡ logins_of self.old) }
         ensures goes_on { OnOk result
             (GoesOn H.answers J.is_clean J.kept (kept_of self.old) (kept_of self.new)) }
     {
@@ -47,6 +48,7 @@ impl<H: Ends + Drop, J: Keeps + Drop> Service<H, J> {
             × IsRun H.answers (held_of self.old) (own_request now head.now) sent
             (held_of self.new) × (IsTrue is ↔ (sent.status ≡ 204))) }
         ensures same { OnOk result (admission_of self.new ≡ admission_of self.old) }
+        ensures logins { OnOk result (logins_of self.new ≡ logins_of self.old) }
         ensures goes_on { OnOk result
             (GoesOn H.answers J.is_clean J.kept (kept_of self.old) (kept_of self.new)) }
     {
@@ -60,7 +62,8 @@ impl<H: Ends + Drop, J: Keeps + Drop> Service<H, J> {
     // Tells who runs the server where it begins at a date that is more than a day before the last moment of its state: it goes on
     // from that moment.
     fn look_at_date(&mut self, date: u64) -> Result<(), Stop>
-        ensures { OnOk result (StaysAll self.old self.new) }
+        ensures same { OnOk result (StaysAll self.old self.new) }
+        ensures logins { OnOk result (logins_of self.new ≡ logins_of self.old) }
     {
         let moment = self.admission.moment();
         if self.admission.has_begun() || date.saturating_add(DAY) >= moment {
@@ -80,6 +83,7 @@ impl<H: Ends + Drop, J: Keeps + Drop> Service<H, J> {
             (admission_of self.old).moment (held_of self.old) mid
             × IsEnded H.answers H.ends (admission_of self.old).moment mid (held_of self.new)) }
         ensures same { OnOk result (admission_of self.new ≡ admission_of self.old) }
+        ensures logins { OnOk result (logins_of self.new ≡ logins_of self.old) }
         ensures goes_on { OnOk result
             (GoesOn H.answers J.is_clean J.kept (kept_of self.old) (kept_of self.new)) }
     {

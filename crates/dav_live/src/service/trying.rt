@@ -22,6 +22,7 @@ impl<H: Ends + Drop, J: Keeps + Drop> Service<H, J> {
     ghost use Rattle.dav_wire.specs.declared.answer.Rejection.TheVariants.{Unauthorized};
     ghost use Rattle.dav_live.specs.Runs.{GoesOn};
     ghost use Rattle.dav_live.specs.Serving.{IsReplyTo, StaysAll, admission_of, held_of, kept_of, logins_of};
+    ghost use Rattle.dav_live.specs.Verdicts.{IsVerdict, TellsRejected};
     ghost use Rattle.dav_live.specs.Waiting.{IsAfterVerdict, seconds_of};
 
     // For how many seconds a login has to wait.
@@ -100,6 +101,8 @@ impl<H: Ends + Drop, J: Keeps + Drop> Service<H, J> {
 
     // Judges a head that was read: who has to wait may not, and else as the server says.
     pub(super) fn judge_head(&mut self, head: &Head<'_>) -> Result<Option<Rejection>, Stop>
+        ensures verdict { IfOk result
+            (IsVerdict (admission_of self.old) (logins_of self.old) head.now) }
         ensures same { StaysAll self.old self.new }
         ensures login { IfOk result (λ verdict. IsAfterVerdict (admission_of self.old)
             (logins_of self.old) head.now verdict (logins_of self.new)) }
@@ -143,13 +146,14 @@ impl<H: Ends + Drop, J: Keeps + Drop> Service<H, J> {
         }
     }
 
-    // Judges a head, whoever makes the request.
+    // Judges a head, whoever waits.
     fn judge_rest(&mut self, head: &Head<'_>) -> Result<Option<Rejection>, Stop>
+        ensures verdict { IfOk result (TellsRejected (admission_of self.old) head.now) }
         ensures same { StaysAll self.old self.new }
         ensures logins { logins_of self.new ≡ logins_of self.old }
     {
         match self.admission.judge(head)? {
-            Some((why, user)) => self.reject(why, user.as_str(), head),
+            Some(rejected) => self.reject(rejected.why, rejected.user.as_str(), head),
             None => Ok(None),
         }
     }

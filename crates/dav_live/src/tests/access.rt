@@ -198,11 +198,13 @@ fn judged(alloc: Global, admission: &mut Admission, head: &Head<'_>) -> Result<S
     let Ok(judgement) = admission.judge(head) else {
         return Err("memory".into());
     };
-    match judgement {
-        Some((Rejection::Unauthorized, user)) => said(alloc, "401", user.as_str()),
-        Some((Rejection::Forbidden, user)) => said(alloc, "403", user.as_str()),
-        Some(_) => said(alloc, "?", ""),
-        None => said(alloc, "-", ""),
+    let Some(rejected) = judgement else {
+        return said(alloc, "-", "");
+    };
+    match rejected.why {
+        Rejection::Unauthorized => said(alloc, "401", rejected.user.as_str()),
+        Rejection::Forbidden => said(alloc, "403", rejected.user.as_str()),
+        _ => said(alloc, "?", ""),
     }
 }
 

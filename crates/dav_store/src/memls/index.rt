@@ -2,14 +2,15 @@
 //!
 //! A tree of the names of paths: the node of a path counts the locks on it or below it, those on it, and those of infinite
 //! depth on it, and has the number of the grant of the last of each. Where there is no node there are no such locks.
-ghost use Rattle.std.specs.Prelude.{◌≡◌, ◌+◌, ◌-◌, ◌≤◌, true, false, Some, List, ℕ, OnOk, IfOk, IfSome, option_copied, if◌then◌else◌};
+ghost use Rattle.std.specs.Prelude.{◌≡◌, ◌+◌, ◌-◌, ◌≤◌, true, false, Some, List, ℕ, OnOk, IfOk, IfSome, option_copied, if◌then◌else◌, position, slice_get, take};
 ghost use Rattle.std.specs.List.{filter, list_any};
 ghost use Rattle.std.specs.Option.{option_and_then, option_map_or, IsSome};
 ghost use Rattle.dav_core.specs.Path.{Path, names, is_same_path, is_at_or_under};
-ghost use Rattle.dav_core.specs.Locks.{Lock};
+ghost use Rattle.dav_core.specs.Locks.{Lock, has_token_at};
 ghost use Rattle.dav_store.specs.Tree.{value_of, with_value};
 ghost use Rattle.dav_store.specs.Placed.{named, found};
-ghost use Rattle.dav_store.specs.LockIndex.{Key, key_of, same_kind, seat_count, count_of, one_at, path_keys, times, tally, HasCounts, matters, end_key, weight};
+ghost use Rattle.dav_store.specs.LockCalls.{IsNamedPlace};
+ghost use Rattle.dav_store.specs.LockIndex.{Key, key_of, at_key, same_kind, seat_count, count_of, one_at, path_keys, times, tally, HasCounts, IsIndexOf, matters, end_key, weight};
 ghost use Rattle.dav_store.specs.declared.memls.index.Kind.{Kind};
 
 use super::kept::Kept;
@@ -17,6 +18,7 @@ use crate::paths;
 use crate::tree::{ROOT_ID, Tree};
 use dav_core::davpath::DavPath;
 use dav_core::errors::NoMemory;
+use dav_core::ls::DavLock;
 use std::alloc::{AllocError, Global};
 use std::marker::Model;
 
@@ -154,7 +156,8 @@ impl Counts {
     ghost use Rattle.dav_core.specs.Path.{Path, names, is_same_path, is_at_or_under};
     ghost use Rattle.dav_store.specs.Tree.{value_of, with_value};
     ghost use Rattle.dav_store.specs.Placed.{named, found};
-    ghost use Rattle.dav_store.specs.LockIndex.{Key, key_of, seat_count, count_of, one_at, path_keys, times, tally, weight};
+    ghost use Rattle.dav_store.specs.LockCalls.{IsNamedPlace};
+    ghost use Rattle.dav_store.specs.LockIndex.{Key, key_of, seat_count, count_of, one_at, path_keys, times, tally, IsIndexOf, weight};
 
     /// No lock is counted.
     pub fn new(alloc: Global) -> Result<Counts, NoMemory>
@@ -180,6 +183,17 @@ impl Counts {
         ensures { result ≡ option_and_then (λ n. named self.now n name.now) parent }
     {
         self.tree.get_child_bytes(parent?, name).ok()
+    }
+
+    // The number of the node under a name of a node; none without a name.
+    fn below(&self, parent: Option<u64>, name: Option<&[u8]>) -> Option<u64>
+        ensures { IfSome name.entry
+            (λ n. result ≡ option_and_then (λ m. named self.now m n.now) parent) }
+    {
+        match name {
+            Some(name) => self.child(parent, name),
+            None => None,
+        }
     }
 
     // What a node counts.
@@ -411,6 +425,86 @@ impl Counts {
         }
         Some(self.last_of_some(path, deep))
     }
+
+    // The place of the lock that a token and a path mean: that of the first one with the token on the shortest front of the
+    // path on which one has it.
+    fn named_place(&self, locks: &[Kept], path: &DavPath, token: &str) -> Option<usize>
+        requires { IsIndexOf (Some self.now) locks.now }
+        ensures { IsNamedPlace token.now (names path.now) locks.now result }
+    {
+        let mut at = Some(ROOT_ID);
+        let mut left = path.segments();
+        for len in 0..=paths::count(path) {
+            let seated = self.counted(at, Kind::At);
+            if let Some(i) = place_on(locks, seated, path, token, len) {
+                return Some(i);
+            }
+            let name = left.next();
+            at = self.below(at, name);
+        }
+        None
+    }
+}
+
+// Whether a lock has this token and is on the first so many names of a path.
+fn is_named(lock: &DavLock, path: &DavPath, token: &str, len: usize) -> bool
+    ensures { result ≡ has_token_at token.now (take len (names path.now)) lock.now }
+{
+    lock.token.as_str() == token && paths::is_front(&lock.path, path, len)
+}
+
+// The place of the first lock that has this token and is on the first so many names of a path.
+fn named_at(locks: &[Kept], path: &DavPath, token: &str, len: usize) -> Option<usize>
+    ensures { result ≡ position (has_token_at token.now (take len (names path.now))) locks.now }
+{
+    locks
+        .iter()
+        .position(|l| is_named(l.lock(), path, token, len))
+}
+
+// The same, where so many locks are on the first so many names of the path. Of one alone it looks at that one.
+fn place_on(
+    locks: &[Kept],
+    seated: Counted,
+    path: &DavPath,
+    token: &str,
+    len: usize,
+) -> Option<usize>
+    requires { seated.count ≡ tally (at_key (take len (names path.now))) locks.now }
+    ensures { result ≡ position (has_token_at token.now (take len (names path.now))) locks.now }
+{
+    if seated.count == 0 {
+        return None;
+    }
+    if seated.count == 1 {
+        if let Some((i, kept)) = only_on(locks, seated.last, path, len) {
+            return if kept.lock().token.as_str() == token {
+                Some(i)
+            } else {
+                None
+            };
+        }
+    }
+    named_at(locks, path, token, len)
+}
+
+// The lock by this grant with its place, where it is on the first so many names of a path.
+fn only_on<'a>(
+    locks: &'a [Kept],
+    grant: u64,
+    path: &DavPath,
+    len: usize,
+) -> Option<(usize, &'a Kept)>
+    ensures { IfSome result (λ x. (slice_get locks.now x.0 ≡ Some x.1.now)
+        × (is_same_path (names x.1.now.path) (take len (names path.now)) ≡ true)) }
+{
+    let i = locks.binary_search_by_key(&grant, |l| l.grant()).ok()?;
+    let kept = locks.get(i)?;
+    if paths::is_front(&kept.lock().path, path, len) {
+        Some((i, kept))
+    } else {
+        None
+    }
 }
 
 // The kind of the locks at a path or, where `deep`, of those at it or below it.
@@ -446,6 +540,34 @@ pub fn only_grant(index: &Option<Counts>, path: &DavPath, deep: bool) -> Option<
         Some(counts) => counts.only_grant(path, deep),
         None => None,
     }
+}
+
+/// The place of the lock that a token and a path mean. Looks at the locks on fronts of the path alone, where there is an index.
+pub fn named_place(
+    index: &Option<Counts>,
+    locks: &[Kept],
+    path: &DavPath,
+    token: &str,
+) -> Option<usize>
+    requires { IsIndexOf index.now locks.now }
+    ensures { IsNamedPlace token.now (names path.now) locks.now result }
+{
+    match index {
+        Some(counts) => counts.named_place(locks, path, token),
+        None => named_by_walk(locks, path, token),
+    }
+}
+
+// The same, by a look at each lock for each front of the path.
+fn named_by_walk(locks: &[Kept], path: &DavPath, token: &str) -> Option<usize>
+    ensures { IsNamedPlace token.now (names path.now) locks.now result }
+{
+    for len in 0..=paths::count(path) {
+        if let Some(i) = named_at(locks, path, token, len) {
+            return Some(i);
+        }
+    }
+    None
 }
 
 /// A lock on a path comes, by the grant of this number. An index that can't grow goes.

@@ -8,15 +8,18 @@ ghost use Rattle.dav_store.specs.LockIndex.{matters};
 
 use crate::paths;
 use dav_core::davpath::DavPath;
+use dav_core::errors::NoMemory;
 use dav_core::ls::DavLock;
+use std::alloc::{AllocError, Global};
 use std::marker::Model;
 
-/// A lock, with how many names its path has, and the number of the grant by which it came.
+/// A lock, with how many names its path has, and the number of the grant by which it came. It is small, so that a lock in front of many
+/// others goes at the cost of these few bytes for each.
 #[derive(Drop)]
 pub struct Kept {
     len: usize,
     grant: u64,
-    lock: DavLock,
+    lock: Box<DavLock>,
 }
 
 impl Model for Kept {
@@ -29,24 +32,24 @@ impl Model for Kept {
 
     ghost coded = { lock_code };
 
-    ghost view = { λ k. k.lock };
+    ghost view = { λ k. k.lock.value };
 
-    ghost invariant = { λ k. k.len ≡ length (names k.lock.path) };
+    ghost invariant = { λ k. k.len ≡ length (names k.lock.value.path) };
 }
 
 impl Kept {
-    ghost use Rattle.std.specs.Prelude.{◌≡◌, ◌≤◌, ◌+◌, IfSome};
+    ghost use Rattle.std.specs.Prelude.{◌≡◌, ◌≤◌, ◌+◌, IfOk, IfSome};
     ghost use Rattle.dav_core.specs.Locks.{refreshed_lock};
     ghost use Rattle.dav_core.specs.Numbers.{max_u64};
 
     /// A lock as it is kept.
-    pub fn new(lock: DavLock, grant: u64) -> Kept
-        ensures { result ≡ lock }
+    pub fn new(alloc: Global, lock: DavLock, grant: u64) -> Result<Kept, NoMemory>
+        ensures { IfOk result (λ k. k ≡ lock) }
     {
-        Kept {
-            len: paths::count(&lock.path),
-            grant,
-            lock,
+        let len = paths::count(&lock.path);
+        match Box::new(alloc, lock) {
+            Ok(lock) => Ok(Kept { len, grant, lock }),
+            Err(_) => Err(AllocError),
         }
     }
 
@@ -66,7 +69,7 @@ impl Kept {
     pub fn into_lock(self) -> DavLock
         ensures { result ≡ self }
     {
-        self.lock
+        Box::into_inner(self.lock)
     }
 
     /// Gives the lock a new timeout.

@@ -43,7 +43,8 @@ fn locks_of(
     for grant in 0..count {
         let (lock, after) = lock_of(alloc, levels, rest)?;
         index::raise(alloc, &mut index, &lock.path, lock.deep, grant);
-        locks.push(Kept::new(lock, grant))?;
+        let kept = Kept::new(alloc, lock, grant)?;
+        locks.push(kept)?;
         rest = after;
     }
     let list = MemLs {

@@ -6,7 +6,7 @@ use Rattle.dav_live.proofs.ServingLemmas.{ends_one}
 use Rattle.dav_live.proofs.service.Service.end_locks.Goals as goal
 
 pub loop-init : goal.loop-init
-loop-init g c = (none, refl, goes_on_same g.H.Handles.answers g.J.Keeps.is_clean g.J.Keeps.kept (kept_of c.args.self.now) (kept_of c.args.self.now) refl)
+loop-init g c = (none, refl, refl, goes_on_same g.H.Handles.answers g.J.Keeps.is_clean g.J.Keeps.kept (kept_of c.args.self.now) (kept_of c.args.self.now) refl)
 
 pub loop-preserved : goal.loop-preserved
 loop-preserved g c =
@@ -15,7 +15,8 @@ loop-preserved g c =
       ends_one g.H.Handles.answers g.H.Ends.ends (admission_of c.args.self.now) (admission_of c.loop.self) (held_of c.args.self.now) (held_of c.loop.self)
           (held_of c.end_lock.new.self) before.0 before.1 ended,
       c.in_ok-end_lock.ensures.same ∙ before.1,
-      goes_on_then g.H.Handles.answers g.J.Keeps.is_clean g.J.Keeps.kept (kept_of c.args.self.now) (kept_of c.loop.self) (kept_of c.end_lock.new.self) before.2 c.in_ok-end_lock.ensures.goes_on,
+      c.in_ok-end_lock.ensures.logins ∙ before.2,
+      goes_on_then g.H.Handles.answers g.J.Keeps.is_clean g.J.Keeps.kept (kept_of c.args.self.now) (kept_of c.loop.self) (kept_of c.end_lock.new.self) before.3 c.in_ok-end_lock.ensures.goes_on,
     )
 
 pub returns-then-not-branch-clause-ended : goal.returns-then-not-branch-clause-ended
@@ -29,5 +30,5 @@ returns-then-not-branch-clause-ended g c =
 
 pub returns-then-not-branch-clause-goes_on : goal.returns-then-not-branch-clause-goes_on
 returns-then-not-branch-clause-goes_on g c =
-    goes_on_then g.H.Handles.answers g.J.Keeps.is_clean g.J.Keeps.kept (kept_of c.args.self.now) (kept_of c.loop.self) (kept_of c.end_lock.new.self) c.loop.invariant.2
+    goes_on_then g.H.Handles.answers g.J.Keeps.is_clean g.J.Keeps.kept (kept_of c.args.self.now) (kept_of c.loop.self) (kept_of c.end_lock.new.self) c.loop.invariant.3
     c.in_ok-end_lock.ensures.goes_on

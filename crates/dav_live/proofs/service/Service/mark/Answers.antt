@@ -6,6 +6,7 @@ use Rattle.dav_live.proofs.service.Service.mark.Goals as goal
 pub returns : goal.returns
 returns g c = on_ok c.keep_mark.result (λ keeps. record {
   same = c.in_ok-shorten.ensures.same;
+  logins = c.in_ok-shorten.ensures.logins;
   keeps = kept_then g.H.Handles.answers g.H.Handles.saved g.H.Handles.is_saveable g.J.Keeps.is_clean g.J.Keeps.kept (kept_of c.args.self.now) (kept_of c.shorten.new.self) c.keep_mark.new.self c.in_ok-shorten.ensures.keeps (record {
     held = c.keep_mark.ensures.held;
     stays = c.keep_mark.ensures.stays;

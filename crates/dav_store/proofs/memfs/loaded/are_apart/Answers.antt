@@ -1,8 +1,7 @@
-use Rattle.std.proofs.Common.{◌≡◌, ◌++◌, ◌+◌, ◌||◌, ◌==◌, ℕ, Bool, nat_eq, not, take, drop, List, [], ◌∷◌, sym, ap, subst, ◌∙◌, inl, inr, ⊎_elim}
+use Rattle.std.proofs.Common.{◌+◌, ◌||◌, ◌==◌, Bool, nat_eq, take, drop, sym, ap, subst, ◌∙◌, ⊎_elim}
 use Rattle.std.specs.HashSet.{contains}
-use Rattle.std.specs.List.{AllByRecursion}
 use Rattle.dav_core.specs.World.{Nodes}
-use Rattle.dav_store.specs.Loaded.{AreApart, IsApart, is_taken}
+use Rattle.dav_store.specs.Loaded.{AreApart, is_taken}
 use Rattle.dav_store.proofs.LoadedWorlds.{apart_middle, apart_untaken, apart_push, number_free, made_free, taken_push, one_taken, none_taken, split_at, one_more}
 use Rattle.dav_store.proofs.memfs.loaded.are_apart.Goals as goal
 

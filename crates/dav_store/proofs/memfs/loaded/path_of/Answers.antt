@@ -1,4 +1,4 @@
-use Rattle.std.proofs.Common.{◌≡◌, All, List, ℕ, [], ◌∷◌, false, length, take, Result, Ok, Err, refl, sym, ap, ◌∙◌}
+use Rattle.std.proofs.Common.{◌≡◌, All, [], ◌∷◌, false, take, refl, sym, ap, ◌∙◌}
 use Rattle.std.proofs.lemmas.Result.{IfOk-weaker}
 use Rattle.std.proofs.lemmas.List.{append-nil, take_all}
 use Rattle.dav_core.specs.Path.{Path, PathText, IsName, joined, names, names_of}

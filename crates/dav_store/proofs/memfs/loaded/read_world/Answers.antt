@@ -1,15 +1,14 @@
-use Rattle.std.proofs.Common.{◌≡◌, ◌≤◌, ℕ, List, length, Some, refl, sym, ap, subst, ◌∙◌, arith}
-use Rattle.std.specs.List.{AllByRecursion}
+use Rattle.std.proofs.Common.{◌≡◌, ◌≤◌, ℕ, List, length, Some, refl, sym, ap, subst, ◌∙◌}
 use Rattle.std.proofs.lemmas.Result.{err_from_is_err_and}
-use Rattle.dav_core.specs.World.{World, Nodes, IsWorld, last_number}
+use Rattle.dav_core.specs.World.{World, Nodes, IsWorld}
 use Rattle.dav_saved.specs.declared.errors.LoadError.{LoadError}
 use Rattle.dav_saved.specs.declared.errors.LoadError.TheVariants.{Memory, NotSaved}
 use Rattle.dav_saved.specs.Reading.{Read}
 use Rattle.dav_saved.specs.Worlds.{world_at}
 use Rattle.dav_saved.proofs.Fields.{some_is}
 use Rattle.dav_store.specs.Entries.{Held}
-use Rattle.dav_store.specs.Loaded.{Refuses, IsFit, IsListing, HaveFolders}
-use Rattle.dav_store.specs.Makings.{AreMadeBefore, IsNumbered}
+use Rattle.dav_store.specs.Loaded.{Refuses, IsListing, HaveFolders}
+use Rattle.dav_store.specs.Makings.{AreMadeBefore}
 use Rattle.dav_store.proofs.LoadedReads.{AreFit, passed_on}
 use Rattle.dav_store.proofs.LoadedWorlds.{fit_of, listing_of, folders_of, names_of_fit, is_world, few_nodes, made_before}
 use Rattle.dav_store.proofs.memfs.loaded.read_world.Goals as goal

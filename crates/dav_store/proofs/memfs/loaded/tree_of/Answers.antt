@@ -1,5 +1,4 @@
-use Rattle.std.proofs.Common.{◌≡◌, ◌≢◌, ◌++◌, ◌+◌, ◌<◌, ℕ, Bool, true, false, length, get_or, take, drop, All, List, [], ◌∷◌, refl, sym, ap, subst, ◌∙◌, arith}
-use Rattle.std.specs.List.{AllByRecursion}
+use Rattle.std.proofs.Common.{◌≡◌, ◌++◌, ◌+◌, ℕ, true, false, length, take, All, [], ◌∷◌, sym, ap, subst, ◌∙◌, arith}
 use Rattle.std.specs.FinMap.{find, put}
 use Rattle.std.specs.Vec.Iter.{into_iter_len}
 use Rattle.std.proofs.lemmas.Iterator.Adapters.{YieldsList-from_vec}
@@ -10,9 +9,9 @@ use Rattle.dav_core.specs.Path.{Path, path_cmp, parent_of, IsName}
 use Rattle.dav_core.specs.World.{Node, Nodes, is_folder_node}
 use Rattle.dav_saved.proofs.Lists.{all_at}
 use Rattle.dav_store.specs.Entries.{Held}
-use Rattle.dav_store.specs.Loaded.{IsApart, IsListing, HaveFolders}
+use Rattle.dav_store.specs.Loaded.{HaveFolders}
 use Rattle.dav_store.specs.Makings.{IsUnmade}
-use Rattle.dav_store.proofs.LoadedTrees.{IsNext, next_is, free_next, unmade_next, folder_next, grown_next, folders_next}
+use Rattle.dav_store.proofs.LoadedTrees.{next_is, free_next, unmade_next, folder_next, grown_next, folders_next}
 use Rattle.dav_store.proofs.memfs.loaded.tree_of.Goals as goal
 
 pub put_entry-requires-clause-names : goal.put_entry-requires-clause-names

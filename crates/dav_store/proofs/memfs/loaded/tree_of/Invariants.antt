@@ -1,5 +1,4 @@
-use Rattle.std.proofs.Common.{◌≡◌, ◌+◌, length, take, true}
-use Rattle.std.specs.List.{AllByRecursion}
+use Rattle.std.proofs.Common.{◌≡◌, ◌+◌, length, take}
 use Rattle.dav_store.specs.Loaded.{HaveFolders}
 use Rattle.dav_store.proofs.memfs.loaded.tree_of.Given as goal
 

@@ -1,8 +1,7 @@
-use Rattle.std.proofs.Common.{◌≡◌, ◌++◌, ◌≤◌, ◌+◌, ℕ, take, length, List, [], ◌∷◌, sym, ap, subst, ◌∙◌, refl}
-use Rattle.std.specs.List.{AllByRecursion}
+use Rattle.std.proofs.Common.{◌≡◌, ◌≤◌, ℕ, take, length, List, sym, ap, subst, ◌∙◌}
 use Rattle.std.specs.Option.{is_some}
 use Rattle.std.proofs.lemmas.List.{take_all}
-use Rattle.dav_core.specs.World.{Node, Nodes}
+use Rattle.dav_core.specs.World.{Nodes}
 use Rattle.dav_core.specs.Path.{Path}
 use Rattle.dav_saved.proofs.Lists.{all_at}
 use Rattle.dav_store.specs.Passing.{ElementsPass, PropertiesPass}

@@ -18,7 +18,7 @@ pub loop-grant-preserved : goal.loop-grant-preserved
 loop-grant-preserved c =
     let old = c.loop-grant.locks.items in
     let l = c.in_ok-lock.lock in
-    let new : c.push.new.self.items ≡ old ++ l ∷ [] = c.in_ok-push.ensures.items ∙ ap (λ (x : Lock). old ++ x ∷ []) c.new-in-loop-grant.ensures in (
+    let new : c.push.new.self.items ≡ old ++ l ∷ [] = c.in_ok-push.ensures.items ∙ ap (λ (x : Lock). old ++ x ∷ []) c.in_ok-kept.ensures in (
       rw new (goes_on (lock_at c.args.levels) old c.args.count c.loop-grant.grant c.loop-grant.rest.now l c.in_ok-lock.after.now (many_at (lock_at c.args.levels) c.args.count c.args.bytes.now) c.loop-grant-test.true c.in_ok-lock.ensures c.loop-grant.invariant.0),
       index_grown c.raise.new.index c.lock.inside.deep (names c.lock.inside.path) old c.push.new.self.items l (c.raise.ensures (λ k. tally k old) c.loop-grant.invariant.1) new
           (ap (λ (x : Lock). x.deep) (sym c.lock.view_is)) (ap (λ (x : Lock). names x.path) (sym c.lock.view_is)),

@@ -1,9 +1,6 @@
-use Rattle.std.proofs.Common.{sym, subst, Option, List, ℕ}
-use Rattle.std.specs.List.{AllByRecursion}
 use Rattle.std.proofs.lemmas.Result.{err_from_is_err_and}
-use Rattle.dav_core.specs.Path.{Path}
-use Rattle.dav_saved.specs.Reading.{Read, sized_at, list_at}
-use Rattle.dav_store.specs.Loaded.{GivesOnly, IsNameOfBytes}
+use Rattle.dav_saved.specs.Reading.{sized_at}
+use Rattle.dav_store.specs.Loaded.{IsNameOfBytes}
 use Rattle.dav_store.proofs.LoadedReads.{count_failed, behind_count}
 use Rattle.dav_store.proofs.names.Names.load.Goals as goal
 

@@ -1,4 +1,4 @@
-use Rattle.std.proofs.Common.{sym, subst, ◌++◌, ◌∷◌, [], List, ℕ}
+use Rattle.std.proofs.Common.{sym, subst}
 use Rattle.std.specs.List.{AllByRecursion}
 use Rattle.std.proofs.lemmas.Result.{err_from_is_err_and}
 use Rattle.dav_saved.specs.Reading.{sized_at, many_at}

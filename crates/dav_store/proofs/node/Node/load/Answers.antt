@@ -1,6 +1,5 @@
-use Rattle.std.proofs.Common.{◌≡◌, Some, refl}
+use Rattle.std.proofs.Common.{refl}
 use Rattle.std.proofs.lemmas.Result.{err_from_is_err_and}
-use Rattle.std.proofs.lemmas.Bool.Decides.{not_from_Decides}
 use Rattle.dav_saved.specs.Worlds.{fields_at, node_of, node_at}
 use Rattle.dav_store.specs.Loaded.{IsFitNode}
 use Rattle.dav_store.specs.PartsOf.{parts_view}

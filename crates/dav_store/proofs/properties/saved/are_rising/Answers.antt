@@ -1,4 +1,4 @@
-use Rattle.std.proofs.Common.{◌≡◌, ◌-◌, get_or, sym, ap, ◌∙◌, arith}
+use Rattle.std.proofs.Common.{◌≡◌, ◌-◌, get_or, sym, ap, ◌∙◌}
 use Rattle.std.specs.Ordering.{is_lt}
 use Rattle.dav_core.specs.Property.{key_cmp}
 use Rattle.dav_store.proofs.LoadedOrder.{rises_more, rises_not, rises_all, test_less, test_other, key_total}

@@ -1,7 +1,7 @@
 use Rattle.std.proofs.Common.{sym, arith, below_more}
 use Rattle.dav_core.specs.Path.{names}
 use Rattle.dav_store.proofs.NamedLemmas.{named_there, named_nowhere}
-use Rattle.dav_store.proofs.memls.named_place.Goals as goal
+use Rattle.dav_store.proofs.memls.index.named_by_walk.Goals as goal
 
 pub returns-in-Some : goal.returns-in-Some
 returns-in-Some c = named_there c.args.token.now (names c.args.path.now) c.args.locks.now c.loop-len.len c.in-Some.i c.loop-len.invariant (sym c.in-Some.ensures)

@@ -1,7 +1,7 @@
 use Rattle.std.proofs.Common.{◌≡◌, ℕ, ◌<◌, take, position, None}
 use Rattle.dav_core.specs.Path.{names}
 use Rattle.dav_core.specs.Locks.{has_token_at}
-use Rattle.dav_store.proofs.memls.named_place.Given as goal
+use Rattle.dav_store.proofs.memls.index.named_by_walk.Given as goal
 
 -- no shorter front has a lock with this token
 abbrev pub invariant-loop-len : goal.invariant-loop-len

@@ -1,0 +1,191 @@
+//! The core, behind one stream of reports and one of orders.
+//!
+//! A report is `slot u32, kind u8, length u32, seconds u64, date u64, bytes`, an order `slot u32, next u8, length u32, bytes`; numbers
+//! are little-endian. `seconds` are those since the front began, by a clock that nobody sets; `date` those since 1970.
+use crate::clock::{Clock, date};
+use std::io::{self, ErrorKind, Read, Write};
+use std::net::Shutdown;
+use std::os::fd::OwnedFd;
+use std::os::unix::net::UnixStream;
+use std::process::{Child, Command, Stdio};
+
+/// The most bytes of a report.
+pub const PIECE: usize = 65_536;
+
+/// The bytes of a report that come before its own.
+const HEAD: usize = 25;
+
+/// The bytes of an order that come before its own.
+const ORDER_HEAD: usize = 9;
+
+/// No client is read while so many bytes of reports wait for the core.
+const MOST_WAITING: usize = 1 << 20;
+
+/// So much of the orders is read at once.
+const ROOM: usize = 1 << 18;
+
+/// What is read of the orders: bytes of one, of a slot; or its end, with what to do then.
+pub enum Part<'a> {
+    Bytes(usize, &'a [u8]),
+    End(usize, u8),
+}
+
+/// The order of which a part was read: its slot, what to do then, and how many of its bytes are still to come.
+struct Begun {
+    slot: usize,
+    next: u8,
+    left: usize,
+}
+
+/// The core's input and output, one socket for both.
+pub struct Core {
+    socket: UnixStream,
+    /// Reports that aren't written yet, from `written` to `ended`. The room behind stays as it is, so that it isn't cleared each time.
+    reports: Vec<u8>,
+    written: usize,
+    ended: usize,
+    /// Orders that were read, from `used` to `filled`.
+    orders: Vec<u8>,
+    used: usize,
+    filled: usize,
+    begun: Option<Begun>,
+    /// Whether there may be more to read; and whether the core has ended, so that all that it wrote is to be read.
+    readable: bool,
+    hung_up: bool,
+    clock: Clock,
+}
+
+impl Core {
+    /// Starts the core.
+    pub fn start(mut command: Command, clock: Clock) -> io::Result<(Core, Child)> {
+        let (socket, of_core) = UnixStream::pair()?;
+        socket.set_nonblocking(true)?;
+        command.stdin(Stdio::from(OwnedFd::from(of_core.try_clone()?))).stdout(Stdio::from(OwnedFd::from(of_core)));
+        let child = command.spawn()?;
+        let (reports, orders) = (vec![0; 2 * PIECE], vec![0; ROOM]);
+        let core = Core { socket, reports, written: 0, ended: 0, orders, used: 0, filled: 0, begun: None, readable: false, hung_up: false, clock };
+        Ok((core, child))
+    }
+
+    pub fn socket(&self) -> &UnixStream {
+        &self.socket
+    }
+
+    /// Sees how long the machine slept.
+    pub fn look(&mut self) {
+        self.clock.look();
+    }
+
+    /// What the kernel tells of it.
+    pub fn note(&mut self, readable: bool, hung_up: bool) {
+        self.readable |= readable;
+        self.hung_up |= hung_up;
+    }
+
+    /// Whether there may be more to read.
+    pub fn is_readable(&self) -> bool {
+        self.readable || self.hung_up
+    }
+
+    /// Whether clients may be read.
+    pub fn has_room(&self) -> bool {
+        self.ended - self.written < MOST_WAITING
+    }
+
+    /// Room for the bytes of a report, behind that for its head.
+    pub fn room(&mut self) -> &mut [u8] {
+        if self.written == self.ended {
+            (self.written, self.ended) = (0, 0);
+        }
+        let end = self.ended + HEAD + PIECE;
+        if self.reports.len() < end {
+            self.reports.resize(2 * end, 0);
+        }
+        &mut self.reports[self.ended + HEAD..end]
+    }
+
+    /// Reports so many bytes that were put into the room.
+    pub fn report_room(&mut self, slot: usize, kind: u8, count: usize) {
+        let head = &mut self.reports[self.ended..self.ended + HEAD];
+        head[..4].copy_from_slice(&(slot as u32).to_le_bytes());
+        head[4] = kind;
+        head[5..9].copy_from_slice(&(count as u32).to_le_bytes());
+        head[9..17].copy_from_slice(&self.clock.seconds().to_le_bytes());
+        head[17..].copy_from_slice(&date().to_le_bytes());
+        self.ended += HEAD + count;
+    }
+
+    /// Reports bytes, at most as many as a report has.
+    pub fn report(&mut self, slot: usize, kind: u8, bytes: &[u8]) {
+        self.room()[..bytes.len()].copy_from_slice(bytes);
+        self.report_room(slot, kind, bytes.len());
+    }
+
+    /// Writes as many reports as the core takes now.
+    pub fn flush(&mut self) -> io::Result<()> {
+        while self.written < self.ended {
+            match (&self.socket).write(&self.reports[self.written..self.ended]) {
+                Ok(count) => self.written += count,
+                Err(error) if error.kind() == ErrorKind::WouldBlock => return Ok(()),
+                Err(error) if error.kind() == ErrorKind::Interrupted => {}
+                Err(error) => return Err(error),
+            }
+        }
+        Ok(())
+    }
+
+    /// Ends the core's input, once all reports are written: it answers what it has, and ends.
+    pub fn end_input(&self) {
+        if self.written == self.ended {
+            let _ = self.socket.shutdown(Shutdown::Write);
+        }
+    }
+
+    /// Reads orders once. False where the core has ended.
+    pub fn read(&mut self) -> io::Result<bool> {
+        if self.used > 0 {
+            self.orders.copy_within(self.used..self.filled, 0);
+            (self.used, self.filled) = (0, self.filled - self.used);
+        }
+        match (&self.socket).read(&mut self.orders[self.filled..]) {
+            Ok(0) => Ok(false),
+            Ok(count) => {
+                self.filled += count;
+                self.readable = self.filled == self.orders.len();
+                Ok(true)
+            }
+            Err(error) if error.kind() == ErrorKind::WouldBlock => {
+                self.readable = false;
+                Ok(true)
+            }
+            Err(error) if error.kind() == ErrorKind::Interrupted => Ok(true),
+            Err(error) => Err(error),
+        }
+    }
+
+    /// The next part of what was read.
+    pub fn part(&mut self) -> Option<Part<'_>> {
+        let rest = &self.orders[self.used..self.filled];
+        let Some(begun) = &mut self.begun else {
+            let (head, _) = rest.split_at_checked(ORDER_HEAD)?;
+            let number = |at: usize| u32::from_le_bytes([head[at], head[at + 1], head[at + 2], head[at + 3]]) as usize;
+            self.begun = Some(Begun { slot: number(0), next: head[4], left: number(5) });
+            self.used += ORDER_HEAD;
+            return self.part();
+        };
+        let slot = begun.slot;
+        if begun.left == 0 {
+            let next = begun.next;
+            self.begun = None;
+            return Some(Part::End(slot, next));
+        }
+        let count = begun.left.min(rest.len());
+        if count == 0 {
+            return None;
+        }
+        begun.left -= count;
+        let from = self.used;
+        self.used += count;
+        Some(Part::Bytes(slot, &self.orders[from..from + count]))
+    }
+}

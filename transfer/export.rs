@@ -1,0 +1,179 @@
+//! Writes all files of a state as plain files, with their times, and what clients stored as properties as one file of JSON beside.
+use crate::core::{AskError, Core, Link};
+use crate::listing::{Entry, walk};
+use crate::progress::Progress;
+use crate::workers::for_each;
+use crate::xml::Element;
+use crate::{Ended, Words, begin_copy, say};
+use std::collections::HashMap;
+use std::ffi::OsString;
+use std::fs::{self, File, FileTimes};
+use std::io::{self, BufWriter, ErrorKind, Write};
+use std::os::unix::ffi::OsStringExt;
+use std::path::{Path, PathBuf};
+use std::time::{Duration, UNIX_EPOCH};
+
+/// So many files are held at once, each whole.
+const GETTING: usize = 3;
+
+/// A file or folder to write: its path in a URL, where it comes, its length and its time.
+struct Item {
+    href: String,
+    to: PathBuf,
+    size: u64,
+    modified: Option<u64>,
+}
+
+/// Where each file and folder comes; a name that no file can have is named, and what is below it is left out.
+fn places(entries: &[Entry], to: &Path, progress: &Progress) -> (Vec<Item>, Vec<Item>) {
+    let mut paths: HashMap<&str, PathBuf> = HashMap::new();
+    let (mut folders, mut files) = (Vec::new(), Vec::new());
+    for (place, entry) in entries.iter().enumerate() {
+        let href = entry.href.trim_end_matches('/');
+        let above = href.rsplit_once('/').map_or("", |(above, _)| above);
+        let path = match (place, paths.get(above), entry.name()) {
+            (0, ..) => to.to_path_buf(),
+            (_, Some(above), Some(name)) if is_file_name(&name) => above.join(OsString::from_vec(name)),
+            _ => {
+                progress.name(&entry.href, "no file can have that name here");
+                continue;
+            }
+        };
+        if entry.is_folder {
+            paths.insert(href, path.clone());
+        }
+        let item = Item { href: entry.href.clone(), to: path, size: entry.size, modified: entry.modified };
+        if entry.is_folder { folders.push(item) } else { files.push(item) }
+    }
+    (folders, files)
+}
+
+fn is_file_name(name: &[u8]) -> bool {
+    !matches!(name, b"" | b"." | b"..") && !name.contains(&b'/') && !name.contains(&0)
+}
+
+fn set_time(file: &File, modified: Option<u64>) -> io::Result<()> {
+    match modified {
+        Some(moment) => file.set_times(FileTimes::new().set_modified(UNIX_EPOCH + Duration::from_secs(moment))),
+        None => Ok(()),
+    }
+}
+
+/// Writes a file that the server has.
+fn get(link: &mut Link, item: &Item, progress: &Progress) -> Result<(), AskError> {
+    let response = link.ask("GET", &item.href, "", &mut io::empty(), 0)?;
+    if response.status != 200 || response.body.len() as u64 != item.size {
+        progress.name(&item.href, format!("it is answered {} with {} bytes", response.status, response.body.len()));
+        return Ok(());
+    }
+    let written = File::create_new(&item.to).and_then(|mut file| {
+        file.write_all(&response.body)?;
+        set_time(&file, item.modified)
+    });
+    match written {
+        Ok(()) => progress.add(1, item.size),
+        Err(error) => progress.name(item.to.display(), error),
+    }
+    Ok(())
+}
+
+/// A text of JSON (RFC 8259, 7).
+fn quoted(text: &str) -> String {
+    let mut made = String::from("\"");
+    for character in text.chars() {
+        match character {
+            '"' => made.push_str("\\\""),
+            '\\' => made.push_str("\\\\"),
+            '\0'..='\x1f' => made.push_str(&format!("\\u{:04x}", character as u32)),
+            _ => made.push(character),
+        }
+    }
+    made.push('"');
+    made
+}
+
+fn line_of(href: &str, property: &Element) -> String {
+    let [path, namespace, name, xml] = [href, &property.namespace, &property.name, &property.written()].map(quoted);
+    format!("{{\"path\": {path}, \"namespace\": {namespace}, \"name\": {name}, \"xml\": {xml}}}")
+}
+
+/// Writes the properties that clients stored: a list of objects, one on each line.
+fn write_properties(entries: &[Entry], file: File) -> io::Result<usize> {
+    let lines: Vec<String> = entries.iter().flat_map(|entry| entry.dead.iter().map(|property| line_of(&entry.href, property))).collect();
+    let mut file = BufWriter::new(file);
+    writeln!(file, "[{}{}]", lines.join(",\n "), if lines.is_empty() { "" } else { "\n" })?;
+    file.flush()?;
+    Ok(lines.len())
+}
+
+/// Makes the folder of an export; one that is there has to be empty.
+fn make_empty(to: &Path) -> Result<(), Ended> {
+    match fs::create_dir(to) {
+        Err(error) if error.kind() == ErrorKind::AlreadyExists => match fs::read_dir(to).map(|mut entries| entries.next().is_none()) {
+            Ok(true) => Ok(()),
+            Ok(false) => Err(Ended::Refused(format!("{} isn't empty", to.display()))),
+            Err(error) => Err(Ended::refused(to, error)),
+        },
+        made => made.map_err(|error| Ended::refused(to, error)),
+    }
+}
+
+fn transfer(core: &Core, folders: &[Item], files: &[Item], progress: &Progress) -> Result<(), AskError> {
+    for folder in &folders[1..] {
+        if let Err(error) = fs::create_dir(&folder.to) {
+            progress.name(folder.to.display(), error);
+        }
+    }
+    for_each(core, GETTING, files, |link, item| get(link, item, progress))?;
+    for folder in folders.iter().rev() {
+        let _ = File::open(&folder.to).and_then(|file| set_time(&file, folder.modified));
+    }
+    Ok(())
+}
+
+/// Exports the state of a folder to another.
+pub fn export(words: &Words) -> Result<bool, Ended> {
+    let to = PathBuf::from(words.other.trim_end_matches('/'));
+    let mut name = to.clone().into_os_string();
+    name.push(".properties.json");
+    make_empty(&to)?;
+    let properties = File::create_new(&name).map_err(|error| Ended::refused(Path::new(&name), error))?;
+    let core = begin_copy(words, &[])?;
+    let entries = match core.connect().map_err(AskError::from).and_then(|mut link| walk(&mut link, &words.top())) {
+        Ok(entries) => entries,
+        Err(_) => {
+            let _ = fs::remove_file(&name);
+            return Err(Ended::of(core.end()));
+        }
+    };
+    let (count, bytes) = entries.iter().filter(|entry| !entry.is_folder).fold((0, 0), |(count, bytes), file| (count + 1, bytes + file.size));
+    let progress = Progress::new(count, bytes);
+    let (folders, files) = places(&entries, &to, &progress);
+    let done = progress.during(|| transfer(&core, &folders, &files, &progress));
+    let status = core.end();
+    if done.is_err() || status != 0 {
+        return Err(Ended::of(status));
+    }
+    let count = write_properties(&entries, properties).map_err(|error| Ended::refused(Path::new(&name), error))?;
+    say(&format!("exported {}; {count} properties are in {}\n", progress.counts(folders.len() - 1), Path::new(&name).display()));
+    Ok(progress.named() == 0)
+}
+
+#[cfg(test)]
+mod tests {
+    use super::*;
+
+    #[test]
+    fn json() {
+        // RFC 8259, 7: what has to be escaped.
+        assert_eq!(quoted("a\"\\\u{1}\nü/"), "\"a\\\"\\\\\\u0001\\u000aü/\"");
+        let element = Element::read("<x:a xmlns:x=\"u\">\"</x:a>").unwrap();
+        assert_eq!(line_of("/b%20c", &element), r#"{"path": "/b%20c", "namespace": "u", "name": "a", "xml": "<x:a xmlns:x=\"u\">&quot;</x:a>"}"#);
+    }
+
+    #[test]
+    fn names() {
+        assert!(is_file_name(b"a") && is_file_name(b"...") && is_file_name("ü".as_bytes()));
+        assert!(![&b""[..], b".", b"..", b"a/b", b"a\0"].into_iter().any(is_file_name));
+    }
+}

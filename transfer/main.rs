@@ -1,0 +1,126 @@
+//! Files in and out of a state, and what a state has: `vuldarg import`, `export` and `check` (docs/SERVE.md, "In and out").
+//!
+//! All of it asks the very program that serves the state, by requests over pipes: an import of the state itself, an export and a check of a
+//! private copy. So what a file is, and which state is damaged, is said in one place.
+#![forbid(unsafe_code)]
+
+mod check;
+mod core;
+mod export;
+mod http;
+mod import;
+mod listing;
+mod progress;
+mod state;
+mod workers;
+mod xml;
+
+use crate::core::{Core, Start};
+use std::fmt::Display;
+use std::io::{Write, stdout};
+use std::path::Path;
+use std::process::exit;
+
+/// Why nothing more is done.
+pub enum Ended {
+    /// It can't be done, for this reason.
+    Refused(String),
+    /// The program ended with this status, and said why.
+    Program(i32),
+}
+
+impl Ended {
+    pub fn refused(what: &Path, why: impl Display) -> Ended {
+        Ended::Refused(format!("{}: {why}", what.display()))
+    }
+
+    /// The end of a program that was still to answer, so 0 is none of its statuses.
+    pub fn of(status: i32) -> Ended {
+        Ended::Program(if status == 0 { 2 } else { status })
+    }
+}
+
+/// What is asked for.
+pub struct Words {
+    /// The program that has the state, and the folder of the state.
+    pub program: String,
+    pub folder: String,
+    /// An empty folder for a copy of the state, where one is made.
+    pub room: String,
+    /// The folder of plain files, if it takes one.
+    pub other: String,
+    /// The prefix, with its segments as in a URL.
+    prefix: String,
+    /// The options of the program.
+    pub options: Vec<String>,
+}
+
+impl Words {
+    /// The path of the folder at the top.
+    pub fn top(&self) -> String {
+        format!("{}/", self.prefix)
+    }
+}
+
+/// Says something on standard output. Where nobody reads it, nobody can be told so.
+pub fn say(text: &str) {
+    let _ = stdout().write_all(text.as_bytes());
+}
+
+fn usage() -> ! {
+    eprintln!("usage: transfer import|export|check PROGRAM FOLDER ROOM [OTHER] [--prefix /PATH] [--body BYTES]");
+    exit(1)
+}
+
+/// Copies the state to the room, with these other files, and starts the program over the copy. It is only read.
+fn begin_copy(words: &Words, others: &[&str]) -> Result<Core, Ended> {
+    let (folder, room) = (Path::new(&words.folder), Path::new(&words.room));
+    let others = [&["state.begun"], others].concat();
+    match state::copy(folder, room, &others) {
+        Ok(true) => {}
+        Ok(false) => return Err(Ended::Refused(format!("{} has no state", folder.display()))),
+        Err(error) => return Err(Ended::refused(folder, error)),
+    }
+    let mut options = words.options.clone();
+    options.extend(["--read-only".to_string(), "--snapshot-past".to_string(), u64::MAX.to_string()]);
+    let start = Start { program: &words.program, folder: &words.room, options: &options, said_of: &words.folder, as_owner: false, own_login: true };
+    Core::start(&start).map_err(|error| Ended::refused(Path::new(&words.program), error))
+}
+
+fn read_words(mut words: impl Iterator<Item = String>) -> (String, Words) {
+    let mut next = || words.next().unwrap_or_else(|| usage());
+    let command = next();
+    let mut told = Words { program: next(), folder: next(), room: next(), other: String::new(), prefix: String::new(), options: Vec::new() };
+    if command != "check" {
+        told.other = next();
+    }
+    while let Some(name) = words.next() {
+        let value = words.next().unwrap_or_else(|| usage());
+        if name == "--prefix" {
+            let segments = value.split('/').filter(|segment| !segment.is_empty());
+            told.prefix = segments.map(|segment| format!("/{}", http::segment_of(segment.as_ref()))).collect();
+        }
+        told.options.extend([name, value]);
+    }
+    (command, told)
+}
+
+fn main() {
+    let (command, words) = read_words(std::env::args().skip(1));
+    let done = match command.as_str() {
+        "import" => import::import(&words),
+        "export" => export::export(&words),
+        "check" => check::check(&words),
+        _ => usage(),
+    };
+    let status = match done {
+        Ok(true) => 0,
+        Ok(false) => 1,
+        Err(Ended::Program(status)) => status,
+        Err(Ended::Refused(why)) => {
+            eprintln!("vuldarg: {why}");
+            1
+        }
+    };
+    exit(status)
+}
