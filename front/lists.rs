@@ -77,6 +77,10 @@ fn text(folder: &str, name: &str, was_there: &mut bool) -> Result<Option<Vec<u8>
     match fs::read(&file) {
         Ok(text) => {
             *was_there = true;
+            if name == ACCESS {
+                // That there were rules is noted beside the state, as at a start: so that they are gone isn't taken for "each user may do everything".
+                fs::File::create_new(format!("{folder}/state.ruled")).ok();
+            }
             if name == USERS && text.contains(&0) {
                 return Err(format!("{file}: a byte of it is zero"));
             }

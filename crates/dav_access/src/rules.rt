@@ -32,6 +32,13 @@ impl Rules {
         Rules { grants }
     }
 
+    /// The grants.
+    pub fn grants(&self) -> &[Grant]
+        ensures { result.now ≡ self.now }
+    {
+        &self.grants
+    }
+
     /// Whether this principal, none where no name was shown, has a right at a path.
     pub fn may(&self, who: Option<&str>, right: Right, path: &DavPath) -> bool
         ensures { result ≡ has_right self.now (option_copied who.entry) right (names path.now) }

@@ -8,7 +8,7 @@ use Rattle.std.proofs.lemmas.Slice.Eq.{bytes_eq-Decides}
 use Rattle.http_header.specs.HeaderMap.{get_all}
 use Rattle.dav_core.specs.declared.errors.DavError.{DavError}
 use Rattle.dav_core.specs.declared.method.DavMethod.{DavMethod}
-use Rattle.dav_core.specs.declared.method.DavMethod.TheVariants.{Copy, Move}
+use Rattle.dav_core.specs.declared.method.DavMethod.TheVariants.{Copy, Get, Head, Move, Options, PropFind}
 use Rattle.dav_core.specs.Path.{Path, PathText, names, star}
 use Rattle.dav_engine.specs.Conditions.{Addressed, AreConditions, Conditions, SaysLists, paths_in}
 use Rattle.dav_engine.specs.CopyMove.{DestinationNames}
@@ -23,9 +23,12 @@ use Rattle.dav_server.specs.Target.{TargetNames}
 use Rattle.dav_server.proofs.HeadLemmas.{one_head}
 use Rattle.dav_server.proofs.MeansWorld.{one_method}
 use Rattle.dav_server.proofs.TargetLemmas.{one_outcome}
-use Rattle.dav_access.specs.Rules.{Rules, has_right, may_read, may_write}
+use Rattle.dav_access.specs.Rules.{Rules, has_right, may_read, may_see, may_write}
 use Rattle.dav_confined.specs.Asked.{AskedView, IsAsked, has_destination, has_leave, has_target, may_write_at}
+use Rattle.dav_server.specs.TagLaws.{is_safe}
+use Rattle.dav_confined.specs.Granted.{OnlyReadsThere}
 use Rattle.dav_confined.specs.Leave.{HasLeave, SpeaksOfReadable, needed}
+use Rattle.dav_confined.specs.Sight.{MayLook, OnlyReads, may_look, only_reads}
 
 -- ---- tests
 
@@ -84,7 +87,7 @@ module _ (f : Path → Bool) where
 
 module _ (rules : Rules) (s : Settings) (x : Exchange) (a : AskedView) (asked : IsAsked s x a) where
   -- what holds of the reading that is asked of holds of each
-  by_reading : (G : Request → DavMethod → PathText → Type 0) → G asked.request a.method a.path → (r : Request) (m : DavMethod) (p : PathText) → IsRequestTo s x r m p → G r m p
+  pub by_reading : (G : Request → DavMethod → PathText → Type 0) → G asked.request a.method a.path → (r : Request) (m : DavMethod) (p : PathText) → IsRequestTo s x r m p → G r m p
   by_reading G is r m p to =
       let one : asked.request ≡ r = one_head x.head asked.request r asked.to.head to.head in
       let mine : GivesServed r.method (Ok a.method) = subst (λ (q : Request). GivesServed q.method (Ok a.method)) one asked.to.method in
@@ -168,3 +171,70 @@ module _ (rules : Rules) (s : Settings) (x : Exchange) (a : AskedView) (asked : 
         (target_by (bytes_eq a.path.bytes star) refl)
         (and_join (has_destination rules x.principal a.method a.destination) (list_all (may_read rules x.principal) a.spoken_of) (destination_by a.method refl)
         (subst (λ (qs : List Path). list_all (may_read rules x.principal) qs ≡ true) (sym asked.says.spoken_of) (read_by asked.says.conditions.lists refl)))
+
+  -- ---- looks
+
+  -- the If of a request speaks of what may be read, by what is asked
+  speaks : list_all (may_read rules x.principal) a.spoken_of ≡ true → (lists : List Addressed)
+      → SaysLists a.path.prefix (names a.path) (get_all (headers_of asked.request.fields) (codes "if")) lists → SpeaksOfReadable rules x.principal lists
+  speaks is lists says =
+      all_readable (may_read rules x.principal) lists (subst (λ (qs : List Path). list_all (may_read rules x.principal) qs ≡ true) (asked.says.spoken_of ∙ ap paths_in (lists_are lists says)) is)
+
+  -- and what is asked, by the If
+  spoken : ((lists : List Addressed) → SaysLists a.path.prefix (names a.path) (get_all (headers_of asked.request.fields) (codes "if")) lists → SpeaksOfReadable rules x.principal lists)
+      → (o : Option (List Addressed)) → asked.says.conditions.lists ≡ o → list_all (may_read rules x.principal) (paths_in o) ≡ true
+  spoken all None is = refl
+  spoken all (Some lists) is =
+      readable_all (may_read rules x.principal) lists
+      (all lists (subst (Decodes (SaysLists a.path.prefix (names a.path)) (get_all (headers_of asked.request.fields) (codes "if"))) is asked.says.read.lists))
+
+  pub looks_by : may_look rules x.principal a ≡ true → MayLook rules s x
+  looks_by is =
+      let two = and_parts (is_safe a.method) (may_see rules x.principal (names a.path) && list_all (may_read rules x.principal) a.spoken_of) is in
+      let rest = and_parts (may_see rules x.principal (names a.path)) (list_all (may_read rules x.principal) a.spoken_of) two.1 in
+      record { request = asked.request; method = a.method; path = a.path; to = asked.to; safe = two.0; seen = rest.0; conditions = speaks rest.1 }
+
+  abbrev Sees : Request → DavMethod → PathText → Type 0
+  Sees r m p =
+      (is_safe m ≡ true) × (may_see rules x.principal (names p) ≡ true)
+      × ((lists : List Addressed) → SaysLists p.prefix (names p) (get_all (headers_of r.fields) (codes "if")) lists → SpeaksOfReadable rules x.principal lists)
+
+  pub by_looks : MayLook rules s x → may_look rules x.principal a ≡ true
+  by_looks look =
+      let here : Sees asked.request a.method a.path =
+      by_reading (λ r m p. Sees r m p → Sees asked.request a.method a.path) (λ sees. sees) look.request look.method look.path look.to (look.safe, look.seen, look.conditions) in
+      and_join (is_safe a.method) (may_see rules x.principal (names a.path) && list_all (may_read rules x.principal) a.spoken_of) here.0
+      (and_join (may_see rules x.principal (names a.path)) (list_all (may_read rules x.principal) a.spoken_of) here.1
+      (subst (λ (qs : List Path). list_all (may_read rules x.principal) qs ≡ true) (sym asked.says.spoken_of) (spoken here.2 asked.says.conditions.lists refl)))
+
+  -- ---- reads
+
+  -- what only reads needs to read, and names no place to write at
+  needs_reads : (m : DavMethod) → is_safe m ≡ true → (who : Option (List ℕ)) (p : Path) → may_read rules who p ≡ true → has_right rules who (needed m) p ≡ true
+  needs_reads Get safe who p is = is
+  needs_reads Head safe who p is = is
+  needs_reads Options safe who p is = is
+  needs_reads PropFind safe who p is = is
+  needs_reads _ safe who p is = absurd (true≢false (sym safe))
+
+  nowhere : (m : DavMethod) → is_safe m ≡ true → (who : Option (List ℕ)) (o : Option PathText) → has_destination rules who m o ≡ true
+  nowhere Copy safe who o = absurd (true≢false (sym safe))
+  nowhere Move safe who o = absurd (true≢false (sym safe))
+  nowhere _ safe who o = refl
+
+  pub reads_by : only_reads rules x.principal a ≡ true → HasLeave rules s x × OnlyReadsThere rules s x
+  reads_by is =
+      let two = and_parts (is_safe a.method) (may_read rules x.principal (names a.path) && list_all (may_read rules x.principal) a.spoken_of) is in
+      let rest = and_parts (may_read rules x.principal (names a.path)) (list_all (may_read rules x.principal) a.spoken_of) two.1 in (
+        leave_of (and_join (has_target rules x.principal a) (has_destination rules x.principal a.method a.destination && list_all (may_read rules x.principal) a.spoken_of)
+            (or_right (bytes_eq a.path.bytes star) (has_right rules x.principal (needed a.method) (names a.path)) (needs_reads a.method two.0 x.principal (names a.path) rest.0))
+            (and_join (has_destination rules x.principal a.method a.destination) (list_all (may_read rules x.principal) a.spoken_of) (nowhere a.method two.0 x.principal a.destination) rest.1)),
+        λ r m p to. by_reading (λ r m p. (is_safe m ≡ true) × (may_read rules x.principal (names p) ≡ true)) (two.0, rest.0) r m p to,
+      )
+
+  pub by_reads : HasLeave rules s x × OnlyReadsThere rules s x → only_reads rules x.principal a ≡ true
+  by_reads (leave, only) =
+      let here = only asked.request a.method a.path asked.to in
+      and_join (is_safe a.method) (may_read rules x.principal (names a.path) && list_all (may_read rules x.principal) a.spoken_of) here.0
+      (and_join (may_read rules x.principal (names a.path)) (list_all (may_read rules x.principal) a.spoken_of) here.1
+      (subst (λ (qs : List Path). list_all (may_read rules x.principal) qs ≡ true) (sym asked.says.spoken_of) (read_by leave asked.says.conditions.lists refl)))

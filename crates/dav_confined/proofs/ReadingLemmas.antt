@@ -9,6 +9,7 @@ use Rattle.dav_core.specs.declared.errors.DavError.{DavError}
 use Rattle.dav_core.specs.declared.errors.DavError.TheVariants.{Memory}
 use Rattle.dav_core.specs.declared.method.DavMethod.{DavMethod}
 use Rattle.dav_core.specs.declared.method.DavMethod.TheVariants.{Unlock}
+use Rattle.dav_engine.specs.declared.request.Body.TheVariants as body
 use Rattle.dav_engine.specs.Guard.{IsListed, IsSameLock, folder_of, listed_here, listed_later}
 use Rattle.dav_engine.specs.Headers.{Decodes, Headers}
 use Rattle.dav_engine.specs.LockToken.{SaysLockToken}
@@ -26,7 +27,9 @@ use Rattle.dav_server.proofs.TargetLemmas.{one_outcome}
 use Rattle.dav_access.specs.Rules.{Rules}
 use Rattle.dav_confined.specs.Asked.{IsUnread}
 use Rattle.dav_confined.specs.ConfinedSteps.{UnlocksLock}
+use Rattle.dav_confined.specs.Granted.{OnlyReadsThere}
 use Rattle.dav_confined.specs.Leave.{HasLeave, MayEnd, MayUnlock}
+use Rattle.dav_confined.specs.Sight.{MayLook}
 use Rattle.dav_confined.specs.Unlocking.{MayEndNamed, Names, UnlockView}
 
 pub at_none : {A N : Type 0} (P : A → Type 0) (o : Option A) → o ≡ None → MatchOption o N P → N
@@ -81,6 +84,21 @@ unread_leave rules s x unread = record {
   destination = λ r m p d to is named. absurd (unread r m p to);
   conditions = λ r m p lists to says. absurd (unread r m p to);
 }
+
+-- what isn't read doesn't look
+pub unread_blind : (rules : Rules) (s : Settings) (x : Exchange) → IsUnread s x → ¬ MayLook rules s x
+unread_blind rules s x unread look = unread look.request look.method look.path look.to
+
+-- and reads nothing
+pub unread_reads : (rules : Rules) (s : Settings) (x : Exchange) → IsUnread s x → HasLeave rules s x × OnlyReadsThere rules s x
+unread_reads rules s x unread = (unread_leave rules s x unread, λ r m p to. absurd (unread r m p to))
+
+-- some request of a principal with this head, below this prefix
+abbrev pub settings_at : List ℕ → Settings
+settings_at prefix = record { prefix = prefix; allowed = 0 }
+
+abbrev pub exchange_at : List ℕ → Option (List ℕ) → Exchange
+exchange_at head who = record { head = head; body = body.None; principal = who; moment = 0; token = None }
 
 -- ---- UNLOCK
 

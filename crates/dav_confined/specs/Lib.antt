@@ -2,6 +2,7 @@ pub mod Confined
 pub mod ConfinedSteps
 pub mod Seen
 pub mod SeenSteps
+pub mod Sight
 pub mod Leave
 pub mod Asked
 pub mod Unlocking

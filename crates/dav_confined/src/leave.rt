@@ -4,6 +4,7 @@ ghost use Rattle.std.specs.List.{list_all};
 ghost use Rattle.std.specs.Option.{option_copied};
 ghost use Rattle.dav_core.specs.Path.{names};
 ghost use Rattle.dav_access.specs.Rules.{may_read};
+ghost use Rattle.dav_server.specs.TagLaws.{is_safe};
 ghost use Rattle.dav_confined.specs.Asked.{may_write_at};
 ghost use Rattle.dav_confined.specs.Leave.{MayEnd, needed};
 
@@ -57,6 +58,16 @@ pub fn needed(method: DavMethod) -> Right
     }
 }
 
+// Whether a method only reads.
+fn is_safe(method: DavMethod) -> bool
+    ensures { result ≡ is_safe method }
+{
+    matches!(
+        method,
+        DavMethod::Get | DavMethod::Head | DavMethod::Options | DavMethod::PropFind
+    )
+}
+
 // Whether a principal may write at the path, if there is one.
 fn may_write_at(rules: &Rules, who: Option<&str>, path: &Option<DavPath>) -> bool
     ensures { result ≡ may_write_at rules.now (option_copied who.entry) path.now }
@@ -83,6 +94,7 @@ impl Asked {
     ghost use Rattle.dav_access.specs.Rules.{may_read};
     ghost use Rattle.dav_confined.specs.Asked.{IsAsked, has_destination, has_leave, has_target};
     ghost use Rattle.dav_confined.specs.Leave.{HasLeave};
+    ghost use Rattle.dav_confined.specs.Sight.{MayLook, may_look, only_reads};
 
     // Whether a principal has the right that the method needs at its target.
     fn has_target(&self, rules: &Rules, who: Option<&str>) -> bool
@@ -116,6 +128,31 @@ impl Asked {
     {
         self.has_target(rules, who)
             && (self.has_destination(rules, who) && self.may_read_all(rules, who))
+    }
+
+    // Whether it only reads what may be seen.
+    fn is_look(&self, rules: &Rules, who: Option<&str>) -> bool
+        ensures { result ≡ may_look rules.now (option_copied who.entry) self.now }
+    {
+        is_safe(self.method)
+            && (rules.may(who, Right::See, &self.path) && self.may_read_all(rules, who))
+    }
+
+    /// Whether a request of this principal, none where no name was shown, that asks for this may look: it only reads, of a path of
+    /// which its principal may see that something is there.
+    pub fn may_look(&self, rules: &Rules, who: Option<&str>) -> bool
+        ensures { (s : Settings) (x : Exchange) → x.principal ≡ option_copied who.entry
+            → IsAsked s x self.now → (IsTrue result ↔ MayLook rules.now s x) }
+    {
+        self.is_look(rules, who)
+    }
+
+    /// Whether a request of this principal that asks for this only reads, at what its principal may read.
+    pub fn only_reads(&self, rules: &Rules, who: Option<&str>) -> bool
+        ensures { result ≡ only_reads rules.now (option_copied who.entry) self.now }
+    {
+        is_safe(self.method)
+            && (rules.may(who, Right::Read, &self.path) && self.may_read_all(rules, who))
     }
 
     /// Whether a request of this principal, none where no name was shown, that asks for this has leave.

@@ -9,5 +9,5 @@ mod reading;
 mod tests;
 mod unlocking;
 
-pub use reading::has_leave;
+pub use reading::{has_leave, may_look, only_reads};
 pub use unlocking::may_unlock;

@@ -1,5 +1,6 @@
 //! What a head asks for is read in its bytes, as the machine reads it, and is looked up in the rules.
 ghost use Rattle.std.specs.Prelude.{◌≡◌, ◌≢◌, ◌↔◌, None, Ok, Result, IfOk, IsTrue, MatchOption, codes};
+ghost use Rattle.std.specs.Bool.{Decides};
 ghost use Rattle.std.specs.Option.{option_copied};
 ghost use Rattle.std.specs.Result.{result_ok};
 ghost use Rattle.http_header.specs.HeaderMap.{get_all};
@@ -11,6 +12,7 @@ ghost use Rattle.dav_server.specs.Machine.{Exchange, Settings};
 ghost use Rattle.dav_server.specs.Target.{TargetNames};
 ghost use Rattle.dav_confined.specs.Asked.{NamesPaths};
 ghost use Rattle.dav_confined.specs.Leave.{HasLeave};
+ghost use Rattle.dav_confined.specs.Sight.{MayLook, OnlyReads};
 
 use crate::leave::Asked;
 use dav_access::Rules;
@@ -125,4 +127,41 @@ pub fn has_leave(
         Some(asked) => Ok(asked.has_leave(rules, who)),
         None => Ok(true),
     }
+}
+
+/// Whether a request with these bytes as its head, of this principal, none where no name was shown, may look by rules, below a
+/// prefix: it only reads, of a path of which its principal may see that something is there. `NoMemory` where memory runs out.
+pub fn may_look(
+    alloc: Global,
+    rules: &Rules,
+    who: Option<&str>,
+    head: &[u8],
+    prefix: &str,
+) -> Result<bool, NoMemory>
+    ensures { (s : Settings) (x : Exchange) → s.prefix ≡ prefix.now → x.head ≡ head.now
+        → x.principal ≡ option_copied who.entry
+        → IfOk result (λ may. IsTrue may ↔ MayLook rules.now s x) }
+{
+    let Some(asked) = Asked::read(alloc, head, prefix)? else {
+        return Ok(false);
+    };
+    Ok(asked.may_look(rules, who))
+}
+
+/// Whether each request with these bytes as its head, of this principal, none where no name was shown, has leave by rules, below a
+/// prefix, and only reads, at what its principal may read. `NoMemory` where memory runs out.
+pub fn only_reads(
+    alloc: Global,
+    rules: &Rules,
+    who: Option<&str>,
+    head: &[u8],
+    prefix: &str,
+) -> Result<bool, NoMemory>
+    ensures { IfOk result (λ is. Decides is
+        (OnlyReads rules.now prefix.now (option_copied who.entry) head.now)) }
+{
+    let Some(asked) = Asked::read(alloc, head, prefix)? else {
+        return Ok(true);
+    };
+    Ok(asked.only_reads(rules, who))
 }

@@ -1,6 +1,6 @@
 //! Which requests have leave, as rows of text.
 use crate::leave::{Asked, may_end};
-use crate::{has_leave, may_unlock};
+use crate::{has_leave, may_look, may_unlock, only_reads};
 use dav_access::{Rules, Users, file};
 use dav_core::davpath::DavPath;
 use dav_core::ls::{DavLock, DavLockSystem};
@@ -67,6 +67,34 @@ anna GET /shared/a - /anna/b,/shared/c -> yes
 anna GET /shared/a - /anna/b,/ben/c -> no
 anna PUT /anna/a - /ben -> no
 - OPTIONS * - /shared -> no
+";
+
+// Who, or `-` for nobody, and the lines of a head, between bars; whether it may look below the prefix `/dav`, and whether it only reads
+// what may be read.
+const LOOKS: &str = "\
+# what leads to a grant, by methods that read
+anna | PROPFIND /dav -> yes no
+anna | OPTIONS /dav/ -> yes no
+anna | GET /dav/x/.. -> yes no
+anna | HEAD /dav -> yes no
+- | PROPFIND /dav -> yes no
+anna | PROPPATCH /dav -> no no
+anna | UNLOCK /dav -> no no
+anna | COPY /dav -> no no
+# what doesn't
+anna | PROPFIND /dav/ben -> no no
+- | PROPFIND /dav/shared -> no no
+# what may be read may be seen
+anna | PROPFIND /dav/shared -> yes yes
+anna | GET /dav/anna/a -> yes yes
+anna | PUT /dav/anna/a -> no no
+# the paths of If
+anna | PROPFIND /dav | If: <http://host/dav/ben> (<urn:t>) -> no no
+anna | PROPFIND /dav | If: <http://host/dav/anna> (<urn:t>) -> yes no
+anna | GET /dav/anna/a | If: <http://host/dav/ben> (<urn:t>) -> no no
+# what the machine doesn't read
+anna | REPORT /dav -> no yes
+anna | PROPFIND /other -> no yes
 ";
 
 // Who, the principal of a lock and its path; whether who may end it.
@@ -275,6 +303,28 @@ fn heads_have_leave(rt: HostRuntime) -> Result<(), Fail> {
             let head = head_of(rt.alloc(), lines)?;
             let found = has_leave(rt.alloc(), &rules, word_of(who), head.as_bytes(), "/dav")?;
             assert!(&rt; found == (wanted == "yes"), "{row}");
+        }
+    }
+    Ok(())
+}
+
+// `yes` or `no`.
+fn word(is: bool) -> &'static str {
+    if is { "yes" } else { "no" }
+}
+
+#[test]
+fn heads_look(rt: HostRuntime) -> Result<(), Fail> {
+    let rules = rules_of(rt.alloc())?;
+    for row in LOOKS.lines() {
+        if let Some((input, wanted)) = parts(row) {
+            let (who, lines) = input.split_once(" | ").ok_or("a row without a head")?;
+            let who = word_of(who);
+            let head = head_of(rt.alloc(), lines)?;
+            let looks = may_look(rt.alloc(), &rules, who, head.as_bytes(), "/dav")?;
+            let reads = only_reads(rt.alloc(), &rules, who, head.as_bytes(), "/dav")?;
+            let found = format!(in rt.alloc(); "{} {}", word(looks), word(reads))?;
+            assert!(&rt; found.as_str() == wanted, "{row}, gives: {found}");
         }
     }
     Ok(())

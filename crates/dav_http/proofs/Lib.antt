@@ -1,4 +1,5 @@
 mod Each
+mod PlacedLemmas
 mod Printed
 mod StoredTrees
 mod PlainWords

@@ -8,6 +8,7 @@ pub mod Sending
 pub mod HeadText
 pub mod Holders
 pub mod Kept
+pub mod Placed
 pub mod Presented
 pub mod PresentedParts
 pub mod Refused

@@ -15,6 +15,7 @@ use crate::head::{Head, takes_tree};
 use crate::owner::with_prefixed_owners;
 use crate::sendable::is_sendable_if_any;
 use bytes::Bytes;
+use dav_core::davpath::DavPath;
 use dav_core::element::Element;
 use dav_core::errors::NoMemory;
 use dav_core::fs::DavFileSystem;
@@ -174,7 +175,8 @@ impl Handler {
     ghost use Rattle.std.specs.Option.{option_copied};
     ghost use Rattle.std.specs.Result.{IsErrOf};
     ghost use Rattle.dav_core.specs.Locks.{Lock};
-    ghost use Rattle.dav_core.specs.World.{last_moment};
+    ghost use Rattle.dav_core.specs.Path.{names};
+    ghost use Rattle.dav_core.specs.World.{is_folder, last_moment};
     ghost use Rattle.dav_server.specs.Server.{Answers};
     ghost use Rattle.dav_server.specs.Setup.{IsPrefix};
     ghost use Rattle.dav_store.specs.LockEnds.{first_ended};
@@ -235,6 +237,16 @@ impl Handler {
             (λ used. used ≡ used_bytes self.now.server.state.store.world.nodes) }
     {
         self.handler.fs().used_bytes(alloc)
+    }
+
+    /// Whether a folder is at a path. Nothing changes.
+    pub fn is_folder(&self, path: &DavPath) -> bool
+        ensures { result ≡ is_folder self.now.server.state.store.world (names path.now) }
+    {
+        match self.handler.fs().found_at(path) {
+            Some(found) => found.dir,
+            None => false,
+        }
     }
 
     /// The prefix of the server's paths.

@@ -19,6 +19,25 @@ pub enum Effect {
     Changed,
 }
 
+/// What is asked of a handler of this type beside the requests that it answers by itself: its state
+/// stays.
+pub trait Asks<H> {
+    // By this, a handler in this state has this response to this request.
+    ghost tells: { Self → H → RequestView → Response → Type 0 };
+
+    /// Has a handler fill the response to a request, which comes blank. `Malformed` where it can't
+    /// be asked, `Memory` where memory runs out; after an error nothing may be asked.
+    fn ask(
+        &self,
+        handler: &mut H,
+        request: &Request<'_>,
+        response: &mut Response,
+    ) -> Result<(), HandleError>
+        requires { IsBlank response.old }
+        ensures tells { OnOk result (tells self.now handler.old request.now response.new) }
+        ensures same { OnOk result (handler.new ≡ handler.old) };
+}
+
 /// What answers requests out of a state of its own, which an answer may change.
 pub trait Handles {
     // This response answers this request in the first state, and leaves the second.

@@ -11,7 +11,7 @@ mod saving;
 mod starting;
 
 use crate::error::KeptError;
-use crate::handler::{Effect, Handles};
+use crate::handler::{Asks, Effect, Handles};
 use crate::journal::Keeps;
 use crate::record::Request;
 use http_server::Response;
@@ -235,6 +235,23 @@ impl<H: Handles + Drop, J: Keeps + Drop> Kept<H, J> {
             Effect::Left => Ok(()),
             Effect::Changed => Err(KeptError::Changed),
         }
+    }
+
+    /// Has the handler asked something beside its records: all is as it was.
+    pub fn ask<A: Asks<H>>(
+        &mut self,
+        what: &A,
+        request: &Request<'_>,
+        response: &mut Response,
+    ) -> Result<(), KeptError>
+        requires { IsBlank response.old }
+        ensures told { OnOk result
+            (A.tells what.now (held_by self.old).state request.now response.new) }
+        ensures held { OnOk result (held_by self.new ≡ held_by self.old) }
+        ensures stays { StaysInJournal self.old self.new }
+        ensures journal { journal_of self.new ≡ journal_of self.old }
+    {
+        Ok(what.ask(&mut self.handler, request, response)?)
     }
 
     /// Keeps the batch as one block; where it is empty there is nothing to keep. At `Ok` each

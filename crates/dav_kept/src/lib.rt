@@ -15,7 +15,7 @@ mod tests;
 
 pub use error::{HandleError, KeptError};
 pub use former::adopt;
-pub use handler::{Effect, Handles};
+pub use handler::{Asks, Effect, Handles};
 pub use journal::Keeps;
 pub use kept::{Kept, is_due};
 pub use record::{Record, Request};

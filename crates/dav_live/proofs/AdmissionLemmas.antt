@@ -1,5 +1,5 @@
 -- What becomes of a request.
-use Rattle.std.proofs.Common.{◌≡◌, ◌≢◌, ◌<◌, ◌^◌, ◌↔◌, ◌==◌, ◌∷◌, ℕ, Bool, false, true, IsTrue, arith, IfOk, IfSome, OnOk, List, [], length, get_or, Option, None, Some, Result, Ok, Err, String, option_map, unwrap_or, codes, inl, inr, refl, sym, subst, string_bytes}
+use Rattle.std.proofs.Common.{◌≡◌, ◌≢◌, ◌<◌, ◌^◌, ◌↔◌, ◌==◌, ◌∷◌, ℕ, Bool, false, true, IsTrue, arith, IfOk, IfSome, OnOk, List, [], length, get_or, Option, None, Some, Result, Ok, Err, String, option_map, unwrap_or, codes, inl, inr, refl, sym, subst, string_bytes, true≢false, ◌∙◌}
 use Rattle.std.proofs.lemmas.List.Elements.{All-from_get_or}
 use Rattle.std.proofs.lemmas.Bool.Decides.{nat_tests}
 use Rattle.std.specs.Bool.{Decides}
@@ -12,11 +12,12 @@ use Rattle.dav_engine.specs.declared.request.Body.TheVariants as body
 use Rattle.dav_server.specs.Head.{Request}
 use Rattle.dav_server.specs.Machine.{Exchange, Settings}
 use Rattle.dav_confined.specs.Leave.{HasLeave, Permits}
+use Rattle.dav_confined.specs.Sight.{Looks, MayLook}
 use Rattle.dav_access.specs.Rules.{Rules}
 use Rattle.dav_server.specs.Target.{TargetNames}
 use Rattle.dav_server.specs.TargetCode.{GivesPath}
 use Rattle.dav_server.proofs.TargetLemmas.{one_outcome}
-use Rattle.dav_live.specs.Admission.{AdmissionView, IsDecision, IsTokenFor, HasLeaveIn, IsTurnedAway, misdirected, next, unknown, users_for}
+use Rattle.dav_live.specs.Admission.{AdmissionView, IsDecision, IsTokenFor, HasLeaveIn, IsTurnedAway, LooksIn, misdirected, next, unknown, users_for}
 use Rattle.dav_live.specs.Hosts.{TellsFor, value_of}
 use Rattle.dav_live.specs.Tokens.{token_text}
 use Rattle.dav_access.specs.Principals.{ShowsNoUser}
@@ -61,6 +62,27 @@ leave_by a rules user head b some says = (
       let permits : Permits rules a.prefix user head = subst (λ (o : Option Rules). IfSome o (λ (rs : Rules). Permits rs a.prefix user head)) some leave in
       let s : Settings = record { prefix = a.prefix; allowed = 0 } in
       (says s (exchange_with head user) refl refl refl).1 (permits s (exchange_with head user) refl refl refl),
+)
+
+-- what is said of each request with a head is said of whether it looks
+pub looks_by : (a : AdmissionView) (rules : Rules) (user : Option (List ℕ)) (head : List ℕ) (b : Bool) → a.rules ≡ Some rules
+    → (user ≢ None) ⊎ (a.users ≡ None)
+    → ((s : Settings) (x : Exchange) → s.prefix ≡ a.prefix → x.head ≡ head → x.principal ≡ user → IsTrue b ↔ MayLook rules s x) → Decides b (LooksIn a user head)
+looks_by a rules user head b some named says = (
+  λ yes. (named, (rules, some, λ s x at is who. (says s x at is who).0 yes)),
+  λ looks.
+      let (also_named, (others, also, permits)) = looks in
+      let s : Settings = record { prefix = a.prefix; allowed = 0 } in
+      let same : Some others ≡ Some rules = sym also ∙ some in
+      let one : others ≡ rules = cc in
+      (says s (exchange_with head user) refl refl refl).1 (subst (λ (r : Rules). Looks r a.prefix user head) one permits s (exchange_with head user) refl refl refl),
+)
+
+-- without rules nobody looks
+pub no_look : (a : AdmissionView) (user : Option (List ℕ)) (head : List ℕ) → a.rules ≡ None → Decides false (LooksIn a user head)
+no_look a user head none = (
+  λ yes. absurd (true≢false (sym yes)),
+  λ looks. let (named, (others, also, permits)) = looks in let same : Some others ≡ None = sym also ∙ none in cc,
 )
 
 -- ---- paths outside of the prefix

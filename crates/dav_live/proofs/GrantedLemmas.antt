@@ -39,11 +39,11 @@ use Rattle.dav_turns.proofs.Carried.{Carries, turn_carries}
 use Rattle.dav_wire.specs.declared.answer.Asked.{Asked}
 use Rattle.dav_wire.specs.declared.answer.Rejection.{Rejection}
 use Rattle.dav_live.specs.Admission.{AdmissionView, HasLeaveIn, IsLetIn, IsRequestOf}
-use Rattle.dav_live.specs.Answers.{IsAnswer, IsNextEnd, IsNotRun, caller_of}
+use Rattle.dav_live.specs.Answers.{IsAnswer, IsLook, IsNextEnd, IsNotRun, caller_of}
 use Rattle.dav_live.specs.Granted.{AreAlikeAt, IsKeptOut, IsSound, LivesAreSound, RepliesStayInGrants, TurnsStayInGrants, TurnsStaySound, doing_elsewhere, world_of}
 use Rattle.dav_live.specs.LiveRun.{doing}
 use Rattle.dav_live.specs.Runs.{Commits, Saves, StaysKept}
-use Rattle.dav_live.specs.Serving.{EndsLocks, IsCommitted, IsEnded, IsGreeted, IsListed, IsMarked, IsPassed, IsReplyTo, IsResponseTo, IsRun, IsRunWhole, IsTimed, Serves, StaysAll, admission_of, all, anew, answered, belonging_to, full, headless, heard, held_of, kept_of, logins_of, no_head, none, not_run, one, own_request, refused, run, stuck, told, told_to_wait, turned_away, untold, without_leave}
+use Rattle.dav_live.specs.Serving.{EndsLocks, IsCommitted, IsEnded, IsGreeted, IsListed, IsMarked, IsPassed, IsReplyTo, IsResponseTo, IsRun, IsRunWhole, IsTimed, Serves, StaysAll, admission_of, all, anew, answered, belonging_to, full, headless, heard, held_of, kept_of, logins_of, no_head, none, not_run, one, own_request, refused, run, shown_way, stuck, told, told_to_wait, turned_away, untold, without_leave}
 use Rattle.dav_live.specs.declared.service.Service.{Service}
 use Rattle.dav_live.proofs.MachineRuns.{step_of}
 use Rattle.dav_live.proofs.UnlockTexts.{unlock_keeps_off}
@@ -145,13 +145,14 @@ module _ (covered : Path → Bool) where
         let later = subst (λ (s : Settings). AllOff a s asked) (sym first.settings) off in
         leads_on old.state whole.mid.state new.state first (timed_leads whole.mid new r q whole.own own later is request.let_in whole.timed first.good)
 
-    responds_leads : (old new : Holding Server) (own : Response) → AllOff a old.state.settings asked → IsResponseTo IsAnswer IsNotRun a old asked own new → IsGood old.state → Leads old.state new.state
+    responds_leads : (old new : Holding Server) (own : Response) → AllOff a old.state.settings asked → IsResponseTo IsAnswer IsNotRun IsLook a old asked own new → IsGood old.state → Leads old.state new.state
     responds_leads old new own off (no_head nothing status same) good = leads_same old.state new.state (ap (λ (h : Holding Server). h.state) same) good
     responds_leads old new own off (turned_away r reason user is away status same) good = leads_same old.state new.state (ap (λ (h : Holding Server). h.state) same) good
     responds_leads old new own off (not_run r q status is request refuses answer same) good = leads_same old.state new.state (ap (λ (h : Holding Server). h.state) same) good
+    responds_leads old new own off (shown_way r q rules is look some told same) good = leads_same old.state new.state (ap (λ (h : Holding Server). h.state) same) good
     responds_leads old new own off (run r q is request may whole) good = whole_leads old new r q own old.tokens off is request whole good
 
-    replies_leads : (l after : LoginsView) (old new : Holding Server) (own : Response) → AllOff a old.state.settings asked → IsReplyTo IsAnswer IsNotRun a l old asked own new after → IsGood old.state
+    replies_leads : (l after : LoginsView) (old new : Holding Server) (own : Response) → AllOff a old.state.settings asked → IsReplyTo IsAnswer IsNotRun IsLook a l old asked own new after → IsGood old.state
         → Leads old.state new.state
     replies_leads l after old new own off (told_to_wait r seconds is waits answer same stays) good = leads_same old.state new.state (ap (λ (h : Holding Server). h.state) same) good
     replies_leads l after old new own off (heard r is may responds later) good = responds_leads old new own off responds good
@@ -231,7 +232,7 @@ module _ {D : Type 0} (g : Ghosts D) (covered : Path → Bool) where
   committed_keeps : (old new : S) → IsCommitted (λ j. IsCleanPair g j) (λ j blocks. IsKeptPair g j blocks) old new → Keeps old new
   committed_keeps old new c = still old new (ap (λ (h : Holding Server). h.state) c.commits.held) (ap (λ (a : AdmissionView). a.prefix) c.same)
 
-  serves : (old new : S) (asked : Asked) (sent : Response) → Serves IsAnswer IsNotRun (λ j. IsCleanPair g j) (λ j blocks. IsKeptPair g j blocks) old asked sent new
+  serves : (old new : S) (asked : Asked) (sent : Response) → Serves IsAnswer IsNotRun IsLook (λ j. IsCleanPair g j) (λ j blocks. IsKeptPair g j blocks) old asked sent new
       → (IsSound old → AllOff covered (admission_of old) (held_of old).state.settings asked) → Keeps old new
   serves old new asked sent s off sound =
       sound_by old new sound

@@ -76,22 +76,22 @@ seen_login a l r status after name password shows wrong right other =
       ]
     ]
 
-module _ {S : Type 0} (answers : S → RequestView → Response → S → Type 0) (refuses : Option Rules → S → Request → RequestView → ℕ → Type 0)
+module _ {S : Type 0} (answers : S → RequestView → Response → S → Type 0) (refuses : Option Rules → S → Request → RequestView → ℕ → Type 0) (looks : Rules → S → RequestView → Response → Type 0)
     (a : AdmissionView) (l : LoginsView) (old : Holding S) (asked : Asked) (r : Request) (is : IsHead asked.head r) (own : Response) (new : Holding S) (after : LoginsView) where
   -- a request that shows no login is heard
-  pub replied_bare : ((name password : List ℕ) → ¬ ShowsLogin a r name password) → IsResponseTo answers refuses a old asked own new → after ≡ l
-      → IsReplyTo answers refuses a l old asked own new after
+  pub replied_bare : ((name password : List ℕ) → ¬ ShowsLogin a r name password) → IsResponseTo answers refuses looks a old asked own new → after ≡ l
+      → IsReplyTo answers refuses looks a l old asked own new after
   replied_bare none responds same =
-      subst (λ (v : LoginsView). IsReplyTo answers refuses a l old asked own new v) (sym same) (heard r is (heard_bare a l r none) responds (showed_none none))
+      subst (λ (v : LoginsView). IsReplyTo answers refuses looks a l old asked own new v) (sym same) (heard r is (heard_bare a l r none) responds (showed_none none))
 
   -- and so is one whose login doesn't wait
   pub replied_heard : (name password : List ℕ) → ShowsLogin a r name password → wait_of l name password (seconds_of a) ≡ 0
-      → IsResponseTo answers refuses a old asked own new → IsAfterLogin a l r own.status after → IsReplyTo answers refuses a l old asked own new after
+      → IsResponseTo answers refuses looks a old asked own new → IsAfterLogin a l r own.status after → IsReplyTo answers refuses looks a l old asked own new after
   replied_heard name password shows free responds known = heard r is (heard_free a l r name password shows free) responds known
 
   -- any other has to wait
   pub replied_wait : (name password : List ℕ) (seconds : ℕ) → ShowsLogin a r name password → seconds ≡ wait_of l name password (seconds_of a) → seconds ≢ 0
-      → IsResponse 429 (wait_fields seconds) [] own → new ≡ old → after ≡ l → IsReplyTo answers refuses a l old asked own new after
+      → IsResponse 429 (wait_fields seconds) [] own → new ≡ old → after ≡ l → IsReplyTo answers refuses looks a l old asked own new after
   replied_wait name password seconds shows waits some response held known =
       told_to_wait r seconds is (record { name = name; password = password; shows = shows; is = sym waits; some = some }) response held known
 

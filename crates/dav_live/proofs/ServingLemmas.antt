@@ -10,14 +10,14 @@ use Rattle.http_server.specs.Response.{IsResponse}
 use Rattle.dav_server.specs.Head.{IsHead, Request}
 use Rattle.dav_wire.specs.declared.answer.Asked.{Asked}
 use Rattle.dav_access.specs.Rules.{Rules}
-use Rattle.dav_live.specs.Admission.{AdmissionView, HasLeaveIn, IsRequestOf, IsTokenFor, after_clocks, challenge_fields, next, none, request_in}
+use Rattle.dav_live.specs.Admission.{AdmissionView, HasLeaveIn, IsLookOf, IsRequestOf, IsTokenFor, after_clocks, challenge_fields, next, none, request_in}
 use Rattle.dav_live.specs.declared.admission.Admitted.{Admitted}
 use Rattle.dav_live.specs.Numbered.{HasNumber}
 use Rattle.dav_live.specs.Runs.{GoesOn}
 use Rattle.dav_http.specs.Refused.{Tells}
 use Rattle.dav_http.specs.Uploaded.{BringsTime, time_body, time_head}
 use Rattle.dav_http.specs.declared.uploaded.TimeRequest.{TimeRequest}
-use Rattle.dav_live.specs.Serving.{EndsLocks, IsAccepted, IsEnded, IsPassed, IsResponseTo, IsRun, IsRunWhole, IsTimed, StaysAll, admission_of, belonging_to, run, answered, held_of, kept_of, logins_of, one, own_request, not_run, told, untold, without_leave}
+use Rattle.dav_live.specs.Serving.{EndsLocks, IsAccepted, IsEnded, IsPassed, IsResponseTo, IsRun, IsRunWhole, IsTimed, StaysAll, admission_of, belonging_to, run, answered, held_of, kept_of, logins_of, one, own_request, shown_way, not_run, told, untold, without_leave}
 use Rattle.dav_live.specs.declared.service.Service.{Service}
 
 module _ {S : Type 0} (answers : S → RequestView → Response → S → Type 0) where
@@ -88,17 +88,25 @@ passed_later answers is_clean kept ends (Err e) old noted new seconds date a sta
 
 -- ---- a request that was admitted
 
-pub ran_or_not : {S : Type 0} (answers : S → RequestView → Response → S → Type 0) (refuses : Option Rules → S → Request → RequestView → ℕ → Type 0) (a b : AdmissionView) (old new noted : Holding S)
+pub ran_or_not : {S : Type 0} (answers : S → RequestView → Response → S → Type 0) (refuses : Option Rules → S → Request → RequestView → ℕ → Type 0) (looks : Rules → S → RequestView → Response → Type 0) (a b : AdmissionView) (old new noted : Holding S)
     (asked : Asked) (r : Request) (admitted : Admitted) (own : Response) → IsHead asked.head r → IsRequestOf a old.tokens r asked.body (request_in a admitted asked.body) → b ≡ a → noted ≡ new
     → ((status : ℕ) × refuses b.rules old.state r (request_in b admitted asked.body) status × IsResponse status (challenge_fields status) [] own × (new ≡ old))
     ⊎ (((status : ℕ) → ¬ refuses b.rules old.state r (request_in b admitted asked.body) status) × IsRunWhole answers b old (request_in b admitted asked.body) own new)
-    → IsResponseTo answers refuses a old asked own noted
-ran_or_not answers refuses a b old new noted asked r admitted own is request same noted-is (inl (status, refused, answer, left)) =
+    → IsResponseTo answers refuses looks a old asked own noted
+ran_or_not answers refuses looks a b old new noted asked r admitted own is request same noted-is (inl (status, refused, answer, left)) =
     not_run r (request_in a admitted asked.body) status is request (subst (λ (x : AdmissionView). refuses x.rules old.state r (request_in x admitted asked.body) status) same refused) answer (noted-is ∙ left)
-ran_or_not {S} answers refuses a b old new noted asked r admitted own is request same noted-is (inr (may, ran)) =
+ran_or_not {S} answers refuses looks a b old new noted asked r admitted own is request same noted-is (inr (may, ran)) =
     run r (request_in a admitted asked.body) is request (subst (λ (x : AdmissionView). (status : ℕ) → ¬ refuses x.rules old.state r (request_in x admitted asked.body) status) same may)
     (subst (λ (h : Holding S). IsRunWhole answers a old (request_in a admitted asked.body) own h) (sym noted-is)
     (subst (λ (x : AdmissionView). IsRunWhole answers x old (request_in x admitted asked.body) own new) same ran))
+
+-- a request that looks at a folder on the way was answered
+pub way_shown : {S : Type 0} (answers : S → RequestView → Response → S → Type 0) (refuses : Option Rules → S → Request → RequestView → ℕ → Type 0) (looks : Rules → S → RequestView → Response → Type 0) (a b : AdmissionView) (old new noted : Holding S)
+    (asked : Asked) (r : Request) (admitted : Admitted) (own : Response) → IsHead asked.head r → IsLookOf a r asked.body (request_in a admitted asked.body) → b ≡ a → noted ≡ new
+    → (rules : Rules) × (b.rules ≡ Some rules) × looks rules old.state (request_in b admitted asked.body) own → new ≡ old → IsResponseTo answers refuses looks a old asked own noted
+way_shown answers refuses looks a b old new noted asked r admitted own is look same noted-is (rules, some, told) left =
+    shown_way r (request_in a admitted asked.body) rules is look (subst (λ (x : AdmissionView). x.rules ≡ Some rules) same some)
+    (subst (λ (x : AdmissionView). looks rules old.state (request_in x admitted asked.body) own) same told) (noted-is ∙ left)
 
 pub not_refused : {S E : Type 0} (answers : S → RequestView → Response → S → Type 0) (refuses : Option Rules → S → Request → RequestView → ℕ → Type 0) (P : Type 0) (lent : Option Rules) (a : AdmissionView)
     (state : S) (old new : Holding S) (came : Request) (q r : RequestView) (own : Response) (status : Option ℕ) (result : Result (Unit {0}) E) → lent ≡ a.rules → state ≡ old.state → q ≡ r → status ≡ None

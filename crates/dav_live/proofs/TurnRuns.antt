@@ -19,16 +19,16 @@ module _ {H J : Type 0} (answers : H → RequestView → Response → H → Type
   listed_runs old new bytes (refused fault faulty stays logins) = same_runs answers saved is_saveable is_clean kept (kept_of old) (kept_of new) stays.1
 
   -- what a live server does carries the run of its records on
-  pub run_carries : (refuses : Option Rules → H → Request → RequestView → ℕ → Type 0) (ends : H → ℕ → Option (List ℕ) → Type 0)
+  pub run_carries : (refuses : Option Rules → H → Request → RequestView → ℕ → Type 0) (looks : Rules → H → RequestView → Response → Type 0) (ends : H → ℕ → Option (List ℕ) → Type 0)
       → Carries (keeping (λ (old : Service H J) (head : List ℕ) (verdict : Option Rejection) (new : Service H J). IsJudged old head verdict new)
-      (λ (old : Service H J) (asked : Asked) (response : Response) (new : Service H J). Serves answers refuses is_clean kept old asked response new)
+      (λ (old : Service H J) (asked : Asked) (response : Response) (new : Service H J). Serves answers refuses looks is_clean kept old asked response new)
       (λ (old : Service H J) (bytes : List ℕ) (new : Service H J). IsGreeted old bytes new)
       (λ (old : Service H J) (bytes : List ℕ) (new : Service H J). IsListed old bytes new)
       (λ (old : Service H J) (address : List ℕ) (new : Service H J). IsPlaced old address new)
       (λ (old : Service H J) (seconds date : ℕ) (new : Service H J). IsPassed answers is_clean kept ends old seconds date new)
       (λ (old new : Service H J). IsMarked saved is_saveable is_clean kept old new) (λ (old new : Service H J). IsCommitted is_clean kept old new))
       (λ old new. RunGoesOn answers saved is_saveable is_clean kept (kept_of old) (kept_of new))
-  run_carries refuses ends = record {
+  run_carries refuses looks ends = record {
     same = λ s. same_runs answers saved is_saveable is_clean kept (kept_of s) (kept_of s) refl;
     joined = λ a b c. runs_then answers saved is_saveable is_clean kept (kept_of a) (kept_of b) (kept_of c);
     judges = λ a head verdict b judged. same_runs answers saved is_saveable is_clean kept (kept_of a) (kept_of b) judged.same.1;

@@ -9,7 +9,7 @@ use Rattle.dav_headers.specs.Value.{IsNumber}
 use Rattle.dav_server.specs.Head.{IsHead, Request}
 use Rattle.dav_wire.specs.declared.answer.Rejection.{Rejection}
 use Rattle.dav_wire.specs.declared.answer.Rejection.TheVariants.{Forbidden, TooManyRequests, Unauthorized, Unavailable}
-use Rattle.dav_live.specs.Admission.{AdmissionView, HasLeaveIn, IsClosedTo, IsHeadKept, IsMadeBy, users_for}
+use Rattle.dav_live.specs.Admission.{AdmissionView, MayAskIn, IsClosedTo, IsHeadKept, IsMadeBy, users_for}
 use Rattle.dav_live.specs.Hosts.{value_of}
 use Rattle.dav_live.specs.Rejections.{IsPlainRead, IsSafe, IsUntaken, MayHaveMore, TellsUntaken, body, forged, misdirected}
 use Rattle.dav_live.specs.Serving.{IsJudged, StaysAll, admission_of, judged, left, logins_of}
@@ -48,7 +48,7 @@ module _ (a : AdmissionView) (r : Request) (x : Rejected) where
       rejected_as Unauthorized (string_bytes shown) (ap (λ (y : Rejected). y.why) is) (ap (λ (y : Rejected). string_bytes y.user) is) (unknown (string_bytes shown) asked shows)
 
   pub rejected_leave : (user : Option (List ℕ)) (head : List ℕ) → x.why ≡ rejection_without_leave user → string_bytes x.user ≡ unwrap_or user [] → IsSenderAsked a r
-      → IsMadeBy a r user → IsHeadKept a r head → ¬ HasLeaveIn a user head → IsRejected a r x.why (string_bytes x.user)
+      → IsMadeBy a r user → IsHeadKept a r head → ¬ MayAskIn a user head → IsRejected a r x.why (string_bytes x.user)
   rejected_leave user head why user_is asked made kept lacks =
       rejected_as (rejection_without_leave user) (unwrap_or user []) why user_is (without_leave user head asked made kept lacks)
 

@@ -3,11 +3,13 @@ use Rattle.std.specs.Prelude.{◌≡◌, ◌≢◌, ◌<◌, ◌⊎◌, ◌↔�
 use Rattle.std.specs.Option.{is_none, is_some}
 use Rattle.dav_access.specs.Rules.{Rules}
 use Rattle.dav_confined.specs.Leave.{Permits}
+use Rattle.dav_confined.specs.Sight.{Looks}
 use Rattle.dav_core.specs.World.{last_moment}
 use Rattle.dav_core.specs.declared.errors.DavError.TheVariants.{IllegalPath}
 use Rattle.dav_core.specs.declared.method.DavMethod.TheVariants.{Get}
 use Rattle.dav_access.specs.Principals.{IsPrincipal, ShowsNoUser}
 use Rattle.dav_http.specs.Kept.{IsKeptOf, Says}
+use Rattle.dav_http.specs.Placed.{BeginsPast}
 use Rattle.dav_kept.specs.Records.{RequestView}
 use Rattle.dav_server.specs.Head.{Request}
 use Rattle.dav_server.specs.Target.{TargetNames}
@@ -18,14 +20,14 @@ use Rattle.dav_live.specs.Rejections.{IsSafe}
 use Rattle.dav_live.specs.Tokens.{token_text}
 use Rattle.dav_live.specs.declared.admission.Admitted.{Admitted}
 use Rattle.dav_live.specs.declared.admission.Decision.{Decision}
-use Rattle.dav_live.specs.declared.admission.Decision.TheVariants.{Refused, Run}
+use Rattle.dav_live.specs.declared.admission.Decision.TheVariants.{Look, Refused, Run}
 use Rattle.dav_live.specs.declared.admission.Reason.{Reason}
-use Rattle.dav_live.specs.declared.admission.Reason.TheVariants.{Misdirected, Unauthorized, Forbidden, TooLong, Outside, ReadOnly}
+use Rattle.dav_live.specs.declared.admission.Reason.TheVariants.{Misdirected, Unauthorized, Forbidden, TooLong, Outside, ReadOnly, TooFar}
 
 -- What a server goes by: the prefix of its paths, the names of its host, the most seconds for which a lock is granted, whether a PROPFIND
 -- without a Depth is left to the machine, whether requests may only read, its users, if it has a list of them, the rules of access, if it
--- has any, the moment, in seconds since 1970, the seconds that the front's steady clock told last, if it did, and the random bytes of its
--- tokens.
+-- has any, the moment, in seconds since 1970, the seconds that the front's steady clock told last, if it did, the random bytes of its
+-- tokens, and the most bytes of a body.
 pub record AdmissionView : Type 0 where
   pub prefix : List ℕ
   pub hosts : List (List ℕ)
@@ -37,6 +39,7 @@ pub record AdmissionView : Type 0 where
   pub moment : ℕ
   pub seconds : Option ℕ
   pub random : List ℕ
+  pub most_body : ℕ
 
 -- how many slashes a text has
 abbrev pub slashes_in : List ℕ → ℕ
@@ -72,6 +75,15 @@ IsHeadKept a came head = (kept : Request) × IsKeptOf a.lock_time a.strict came 
 abbrev pub HasLeaveIn : AdmissionView → Option (List ℕ) → List ℕ → Type 0
 HasLeaveIn a user head = IfSome a.rules (λ rules. Permits rules a.prefix user head)
 
+-- A request of this user may look at a folder on the way to what may be read: there are rules, and by these each request with this head may.
+-- Where there are users, nobody may: a client that shows a name only where it is asked for one would else be told of what nobody may see.
+abbrev pub LooksIn : AdmissionView → Option (List ℕ) → List ℕ → Type 0
+LooksIn a user head = ((user ≢ None) ⊎ (a.users ≡ None)) × ((rules : Rules) × (a.rules ≡ Some rules) × Looks rules a.prefix user head)
+
+-- a request of which this head is kept has leave, of this user, or may look
+abbrev pub MayAskIn : AdmissionView → Option (List ℕ) → List ℕ → Type 0
+MayAskIn a user head = HasLeaveIn a user head ⊎ LooksIn a user head
+
 -- why a request of this user isn't run that has no leave
 abbrev pub reason_for : Option (List ℕ) → Reason
 reason_for None = Unauthorized
@@ -83,7 +95,8 @@ IsClosedTo a r = (a.read_only ≡ true) × ¬ IsSafe r.method
 
 -- A request isn't run, for this reason: it is for another host (RFC 9110, section 7.4); no user is shown, but this name (RFC 9110,
 -- section 15.5.2); its paths have too many slashes; its target isn't below the prefix; requests may only read; or what would be run of it has
--- no leave (RFC 9110, section 15.5.4). With it the user.
+-- no leave, and may not look either (RFC 9110, section 15.5.4); or it begins to write past what a body may have (section 15.5.14). With it the
+-- user.
 pub data IsTurnedAway (a : AdmissionView) (r : Request) : Reason → List ℕ → Type 0 where
   misdirected : TellsFor a.hosts (value_of (codes "host") r) false → IsTurnedAway a r Misdirected []
   unknown : (shown : List ℕ) → TellsFor a.hosts (value_of (codes "host") r) true
@@ -94,7 +107,9 @@ pub data IsTurnedAway (a : AdmissionView) (r : Request) : Reason → List ℕ �
   closed : (user : Option (List ℕ)) → IsLetIn a r user → ¬ HasManySlashes r → ¬ IsOutside a.prefix r → IsClosedTo a r
       → IsTurnedAway a r ReadOnly (unwrap_or user [])
   without_leave : (user : Option (List ℕ)) (head : List ℕ) → IsLetIn a r user → ¬ HasManySlashes r → ¬ IsOutside a.prefix r → ¬ IsClosedTo a r
-      → IsHeadKept a r head → ¬ HasLeaveIn a user head → IsTurnedAway a r (reason_for user) (unwrap_or user [])
+      → IsHeadKept a r head → ¬ HasLeaveIn a user head → ¬ LooksIn a user head → IsTurnedAway a r (reason_for user) (unwrap_or user [])
+  too_far : (user : Option (List ℕ)) (head : List ℕ) → IsLetIn a r user → ¬ HasManySlashes r → ¬ IsOutside a.prefix r → ¬ IsClosedTo a r
+      → IsHeadKept a r head → HasLeaveIn a user head → BeginsPast a.most_body r → IsTurnedAway a r TooFar (unwrap_or user [])
 
 -- The token for a lock that a request may create: a LOCK with a body gets that of the next number, and no other request gets one (RFC
 -- 4918, sections 6.5 and 9.10.2).
@@ -103,7 +118,7 @@ pub data IsTokenFor (random : List ℕ) (number : ℕ) (method body : List ℕ) 
   none : (method ≢ codes "LOCK") ⊎ (body ≡ []) → IsTokenFor random number method body None
 
 -- The request that is run of one that came with this body, where tokens of so many numbers were given: the head that is kept of it, the
--- body, the moment, who makes it, and the token for a lock. It has leave.
+-- body, the moment, who makes it, and the token for a lock. It has leave, and writes within what a body may have.
 pub record IsRequestOf (a : AdmissionView) (tokens : ℕ) (came : Request) (body : List ℕ) (q : RequestView) : Type 0 where
   pub let_in : IsLetIn a came q.principal
   pub few : ¬ HasManySlashes came
@@ -113,9 +128,24 @@ pub record IsRequestOf (a : AdmissionView) (tokens : ℕ) (came : Request) (body
   pub is_kept : IsKeptOf a.lock_time a.strict came kept
   pub says : Says q.head kept
   pub leave : HasLeaveIn a q.principal q.head
+  pub within : ¬ BeginsPast a.most_body came
   pub body_is : q.body ≡ body
   pub moment : q.moment ≡ a.moment
   pub token : IsTokenFor a.random tokens came.method body q.token
+
+-- The request that looks at a folder on the way, of one that came with this body: the head that is kept of it, the body, the moment, and who
+-- makes it. It has no leave to be run.
+pub record IsLookOf (a : AdmissionView) (came : Request) (body : List ℕ) (q : RequestView) : Type 0 where
+  pub let_in : IsLetIn a came q.principal
+  pub few : ¬ HasManySlashes came
+  pub inside : ¬ IsOutside a.prefix came
+  pub open_to : ¬ IsClosedTo a came
+  pub kept : IsHeadKept a came q.head
+  pub lacks : ¬ HasLeaveIn a q.principal q.head
+  pub looks : LooksIn a q.principal q.head
+  pub body_is : q.body ≡ body
+  pub moment : q.moment ≡ a.moment
+  pub token : q.token ≡ None
 
 -- a request that was admitted, with its body, as it is run
 abbrev pub request_in : AdmissionView → Admitted → List ℕ → RequestView
@@ -134,10 +164,11 @@ TellsSafe r is = IsTrue is ↔ IsSafe r.method
 -- what becomes of a request with this body, where tokens of so many numbers were given
 abbrev pub IsDecision : AdmissionView → ℕ → Request → List ℕ → Decision → Type 0
 IsDecision a tokens came body (Refused refused) = IsTurnedAway a came refused.reason (string_bytes refused.user)
+IsDecision a tokens came body (Look admitted) = IsLookOf a came body (request_in a admitted body)
 IsDecision a tokens came body (Run admitted) =
     IsRequestOf a tokens came body (request_in a admitted body) × TellsSafe came admitted.only_reads
 
--- the status of a reason (RFC 9110, sections 15.5.2, 15.5.4, 15.5.5, 15.5.15 and 15.5.20)
+-- the status of a reason (RFC 9110, sections 15.5.2, 15.5.4, 15.5.5, 15.5.14, 15.5.15 and 15.5.20)
 abbrev pub status_of : Reason → ℕ
 status_of Misdirected = 421
 status_of Unauthorized = 401
@@ -145,6 +176,7 @@ status_of Forbidden = 403
 status_of TooLong = 414
 status_of ReadOnly = 403
 status_of Outside = 404
+status_of TooFar = 413
 
 -- the fields of the response: 401 has the challenge (RFC 9110, section 11.6.1; RFC 7617, section 2.1)
 abbrev pub refusal_fields : Reason → List (List ℕ × List ℕ)

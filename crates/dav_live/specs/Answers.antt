@@ -20,6 +20,7 @@ use Rattle.dav_http.specs.Room.{room_of}
 use Rattle.dav_http.specs.Sending.{IsSentAs}
 use Rattle.dav_http.specs.Steps.{IsStepFor}
 use Rattle.dav_kept.specs.Records.{RequestView}
+use Rattle.dav_seen.specs.Ways.{IsWayReply}
 use Rattle.dav_store.specs.LockEnds.{first_ended}
 use Rattle.dav_live.specs.Hosts.{value_of}
 
@@ -46,6 +47,12 @@ pub data IsSentFor (s : Server) (q : RequestView) (r : Reply) (sent : Response) 
 pub data IsAnswer (old : Server) (q : RequestView) (sent : Response) : Server → Type 0 where
   replied : {new : Server} (r : Reply) → IsStepFor q.head q.body (caller_of q) old r new → IsSentFor new q r sent → IsAnswer old q sent new
   shown : (r : Reply) → AsksToSee q.head → IsStepFor q.head q.body (caller_of q) old r old → r.status ≡ 405 → sent.status ≡ 200 → IsAnswer old q sent old
+
+-- The response to a request that looks at a folder on the way to what its principal may read, by rules: the reply, as it is sent; or, where
+-- that is 405 to its GET or HEAD, a page of 200 for a person.
+pub data IsLook (rules : Rules) (s : Server) (q : RequestView) (sent : Response) : Type 0 where
+  told : (r : Reply) → IsWayReply rules s q.head q.body (caller_of q) r → IsSentFor s q r sent → IsLook rules s q sent
+  seen : (r : Reply) → AsksToSee q.head → IsWayReply rules s q.head q.body (caller_of q) r → r.status ≡ 405 → sent.status ≡ 200 → IsLook rules s q sent
 
 -- a request is an UNLOCK that names a lock of another than this user, or of nobody: knowing its token gives no right to end it (RFC 4918,
 -- sections 6.4 and 9.11.1)

@@ -12,7 +12,7 @@ use Rattle.dav_turns.specs.Connections.{TurnsView}
 use Rattle.dav_turns.specs.Turns.{Keeping, keeping}
 use Rattle.dav_wire.specs.declared.answer.Asked.{Asked}
 use Rattle.dav_wire.specs.declared.answer.Rejection.{Rejection}
-use Rattle.dav_live.specs.Answers.{IsAnswer, IsNextEnd, IsNotRun}
+use Rattle.dav_live.specs.Answers.{IsAnswer, IsLook, IsNextEnd, IsNotRun}
 use Rattle.dav_live.specs.Serving.{IsCommitted, IsGreeted, IsListed, IsJudged, IsMarked, IsPassed, IsPlaced, Serves, kept_of}
 use Rattle.dav_live.specs.declared.live.Live.{Live}
 use Rattle.dav_live.specs.declared.service.Service.{Service}
@@ -33,7 +33,7 @@ kept_in l = kept_of (service_of l)
 abbrev pub doing : {D : Type 0} → Ghosts D → Keeping (Service Server (Pair D))
 doing {D} g =
     keeping (λ (old : Service Server (Pair D)) (head : List ℕ) (verdict : Option Rejection) (new : Service Server (Pair D)). IsJudged old head verdict new)
-    (λ (old : Service Server (Pair D)) (asked : Asked) (sent : Response) (new : Service Server (Pair D)). Serves IsAnswer IsNotRun (λ j. IsCleanPair g j) (λ j blocks. IsKeptPair g j blocks) old asked sent new)
+    (λ (old : Service Server (Pair D)) (asked : Asked) (sent : Response) (new : Service Server (Pair D)). Serves IsAnswer IsNotRun IsLook (λ j. IsCleanPair g j) (λ j blocks. IsKeptPair g j blocks) old asked sent new)
     (λ (old : Service Server (Pair D)) (bytes : List ℕ) (new : Service Server (Pair D)). IsGreeted old bytes new)
     (λ (old : Service Server (Pair D)) (bytes : List ℕ) (new : Service Server (Pair D)). IsListed old bytes new)
     (λ (old : Service Server (Pair D)) (address : List ℕ) (new : Service Server (Pair D)). IsPlaced old address new)

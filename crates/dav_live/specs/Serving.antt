@@ -15,7 +15,7 @@ use Rattle.dav_kept.specs.declared.kept.Kept.{Kept}
 use Rattle.dav_server.specs.Head.{IsHead, Request}
 use Rattle.dav_wire.specs.declared.answer.Asked.{Asked}
 use Rattle.dav_wire.specs.declared.answer.Rejection.{Rejection}
-use Rattle.dav_live.specs.Admission.{AdmissionView, HasLeaveIn, IsRequestOf, IsTurnedAway, after_clocks, challenge_fields, refusal_fields, status_of, with_random}
+use Rattle.dav_live.specs.Admission.{AdmissionView, HasLeaveIn, IsLookOf, IsRequestOf, IsTurnedAway, after_clocks, challenge_fields, refusal_fields, status_of, with_random}
 use Rattle.dav_live.specs.Lists.{IsFaulty, Reports}
 use Rattle.dav_live.specs.Runs.{Commits, GoesOn, Saves, StaysKept}
 use Rattle.dav_live.specs.Rejections.{IsPlainRead}
@@ -79,27 +79,32 @@ pub record IsRunWhole {S : Type 0} (answers : S → RequestView → Response →
   pub timed : IsTimed answers a mid q own said new
 
 -- The response to a request, but for its date, and what is held then: 400 where its head is none (RFC 9110, section 15.5.1); the refusal
--- of one that isn't let in; the status of one that the server doesn't run; and else that of the request that is run of it.
+-- of one that isn't let in; the status of one that the server doesn't run; what is told to one that only looks at a folder on the way to
+-- what may be read; and else that of the request that is run of it.
 pub data IsResponseTo {S : Type 0} (answers : S → RequestView → Response → S → Type 0) (refuses : Option Rules → S → Request → RequestView → ℕ → Type 0)
+    (looks : Rules → S → RequestView → Response → Type 0)
     (a : AdmissionView) (old : Holding S) (asked : Asked) (own : Response) (new : Holding S) : Type 0 where
-  no_head : ((r : Request) → ¬ IsHead asked.head r) → IsResponse 400 [] [] own → new ≡ old → IsResponseTo answers refuses a old asked own new
+  no_head : ((r : Request) → ¬ IsHead asked.head r) → IsResponse 400 [] [] own → new ≡ old → IsResponseTo answers refuses looks a old asked own new
   turned_away : (r : Request) (reason : Reason) (user : List ℕ) → IsHead asked.head r → IsTurnedAway a r reason user
-      → IsResponse (status_of reason) (refusal_fields reason) [] own → new ≡ old → IsResponseTo answers refuses a old asked own new
+      → IsResponse (status_of reason) (refusal_fields reason) [] own → new ≡ old → IsResponseTo answers refuses looks a old asked own new
   not_run : (r : Request) (q : RequestView) (status : ℕ) → IsHead asked.head r → IsRequestOf a old.tokens r asked.body q → refuses a.rules old.state r q status
-      → IsResponse status (challenge_fields status) [] own → new ≡ old → IsResponseTo answers refuses a old asked own new
+      → IsResponse status (challenge_fields status) [] own → new ≡ old → IsResponseTo answers refuses looks a old asked own new
+  shown_way : (r : Request) (q : RequestView) (rules : Rules) → IsHead asked.head r → IsLookOf a r asked.body q → a.rules ≡ Some rules
+      → looks rules old.state q own → new ≡ old → IsResponseTo answers refuses looks a old asked own new
   run : (r : Request) (q : RequestView) → IsHead asked.head r → IsRequestOf a old.tokens r asked.body q → ((status : ℕ) → ¬ refuses a.rules old.state r q status)
-      → IsRunWhole answers a old q own new → IsResponseTo answers refuses a old asked own new
+      → IsRunWhole answers a old q own new → IsResponseTo answers refuses looks a old asked own new
 
 -- The response to a request, but for its date, what is held then, and what is known of logins: 429 to who has to wait (RFC 6585,
 -- section 4), and else the response to it.
 pub data IsReplyTo {S : Type 0} (answers : S → RequestView → Response → S → Type 0) (refuses : Option Rules → S → Request → RequestView → ℕ → Type 0)
+    (looks : Rules → S → RequestView → Response → Type 0)
     (a : AdmissionView) (l : LoginsView) (old : Holding S) (asked : Asked) (own : Response) (new : Holding S) (after : LoginsView) : Type 0 where
   told_to_wait : (r : Request) (seconds : ℕ) → IsHead asked.head r → HasToWait a l r seconds → IsResponse 429 (wait_fields seconds) [] own
-      → new ≡ old → after ≡ l → IsReplyTo answers refuses a l old asked own new after
-  heard : (r : Request) → IsHead asked.head r → MayBeHeard a l r → IsResponseTo answers refuses a old asked own new
-      → IsAfterLogin a l r own.status after → IsReplyTo answers refuses a l old asked own new after
-  headless : ((r : Request) → ¬ IsHead asked.head r) → IsResponseTo answers refuses a old asked own new → after ≡ l
-      → IsReplyTo answers refuses a l old asked own new after
+      → new ≡ old → after ≡ l → IsReplyTo answers refuses looks a l old asked own new after
+  heard : (r : Request) → IsHead asked.head r → MayBeHeard a l r → IsResponseTo answers refuses looks a old asked own new
+      → IsAfterLogin a l r own.status after → IsReplyTo answers refuses looks a l old asked own new after
+  headless : ((r : Request) → ¬ IsHead asked.head r) → IsResponseTo answers refuses looks a old asked own new → after ≡ l
+      → IsReplyTo answers refuses looks a l old asked own new after
 
 -- the response as it is sent: with the date of a moment (RFC 9110, section 6.6.1)
 pub record IsDated (moment : ℕ) (own sent : Response) : Type 0 where
@@ -110,10 +115,11 @@ pub record IsDated (moment : ℕ) (own sent : Response) : Type 0 where
   pub body : sent.body ≡ own.body
 
 -- A service answers a request: what it goes by stays as it was, and the run of its records goes on.
-pub record Serves {H J : Type 0} (answers : H → RequestView → Response → H → Type 0) (refuses : Option Rules → H → Request → RequestView → ℕ → Type 0) (is_clean : J → Type 0)
+pub record Serves {H J : Type 0} (answers : H → RequestView → Response → H → Type 0) (refuses : Option Rules → H → Request → RequestView → ℕ → Type 0)
+    (looks : Rules → H → RequestView → Response → Type 0) (is_clean : J → Type 0)
     (kept : J → List (List ℕ) → Type 0) (old : Service H J) (asked : Asked) (sent : Response) (new : Service H J) : Type 0 where
   pub own : Response
-  pub replies : IsReplyTo answers refuses (admission_of old) (logins_of old) (held_of old) asked own (held_of new) (logins_of new)
+  pub replies : IsReplyTo answers refuses looks (admission_of old) (logins_of old) (held_of old) asked own (held_of new) (logins_of new)
   pub dated : IsDated (admission_of old).moment own sent
   pub same : admission_of new ≡ admission_of old
   pub goes_on : GoesOn answers is_clean kept (kept_of old) (kept_of new)

@@ -5,7 +5,7 @@ use Rattle.dav_access.specs.Principals.{ShowsNoUser}
 use Rattle.dav_server.specs.Head.{Request}
 use Rattle.dav_wire.specs.declared.answer.Rejection.{Rejection}
 use Rattle.dav_wire.specs.declared.answer.Rejection.TheVariants.{Forbidden, TooManyRequests, Unauthorized, Unavailable}
-use Rattle.dav_live.specs.Admission.{AdmissionView, HasLeaveIn, IsClosedTo, IsHeadKept, IsMadeBy, users_for}
+use Rattle.dav_live.specs.Admission.{AdmissionView, IsClosedTo, IsHeadKept, IsMadeBy, MayAskIn, users_for}
 use Rattle.dav_live.specs.Hosts.{value_of}
 use Rattle.dav_live.specs.Rejections.{IsPlainRead, IsUntaken, MayHaveMore}
 use Rattle.dav_live.specs.Waiting.{HasToWait, MayBeHeard}
@@ -21,13 +21,13 @@ IsTakeable a r = (why : Rejection) → ¬ IsUntaken a.hosts r why
 abbrev pub IsSenderAsked : AdmissionView → Request → Type 0
 IsSenderAsked a r = IsTakeable a r × MayHaveMore 65536 r
 
--- a request is of a user, or of nobody, and what would be run of it has leave
+-- a request is of a user, or of nobody, and what would be run of it has leave, or may look
 pub record HasSendersLeave (a : AdmissionView) (r : Request) : Type 0 where
   pub user : Option (List ℕ)
   pub head : List ℕ
   pub made : IsMadeBy a r user
   pub kept : IsHeadKept a r head
-  pub leave : HasLeaveIn a user head
+  pub leave : MayAskIn a user head
 
 -- why a request of this user isn't taken that has no leave (RFC 9110, sections 15.5.2 and 15.5.4)
 abbrev pub rejection_without_leave : Option (List ℕ) → Rejection
@@ -37,13 +37,13 @@ rejection_without_leave (Some user) = Forbidden
 -- ---- whoever waits
 
 -- A request isn't taken, for this reason: by its head alone; as no user is shown, but this name (RFC 9110, section 15.5.2); or as what would
--- be run of it has no leave (section 15.5.4). With it the user.
+-- be run of it has no leave, and may not look either (section 15.5.4). With it the user.
 pub data IsRejected (a : AdmissionView) (r : Request) : Rejection → List ℕ → Type 0 where
   untaken : (why : Rejection) → IsUntaken a.hosts r why → IsRejected a r why []
   unknown : (shown : List ℕ) → IsSenderAsked a r → ShowsNoUser (users_for a r) (value_of (codes "authorization") r) shown
       → IsRejected a r Unauthorized shown
   without_leave : (user : Option (List ℕ)) (head : List ℕ) → IsSenderAsked a r → IsMadeBy a r user → IsHeadKept a r head
-      → ¬ HasLeaveIn a user head → IsRejected a r (rejection_without_leave user) (unwrap_or user [])
+      → ¬ MayAskIn a user head → IsRejected a r (rejection_without_leave user) (unwrap_or user [])
 
 -- The body of a request may be taken: none of these holds.
 pub record MayGoOn (a : AdmissionView) (r : Request) : Type 0 where

@@ -15,10 +15,10 @@ use crate::settings::Settings;
 use crate::token::token_text;
 use bytes::Bytes;
 use dav_access::{Refusal, Rules, Users, principal_of};
-use dav_confined::has_leave;
+use dav_confined::{has_leave, may_look};
 use dav_core::errors::DavError;
 use dav_core::method::DavMethod;
-use dav_http::{Head, is_lock, is_safe};
+use dav_http::{Head, begins_past, is_lock, is_safe};
 use dav_server::exchange::LAST_MOMENT;
 use dav_server::target::path_of;
 use dav_wire::Stop;
@@ -46,10 +46,12 @@ pub enum Reason {
     Outside,
     /// It may do more than read, and none may (403).
     ReadOnly,
+    /// It begins to write past the most bytes of a body (413).
+    TooFar,
 }
 
 impl Reason {
-    /// The status of the response (RFC 9110, sections 15.5.2, 15.5.4, 15.5.5, 15.5.15 and 15.5.20).
+    /// The status of the response (RFC 9110, sections 15.5.2, 15.5.4, 15.5.5, 15.5.14, 15.5.15 and 15.5.20).
     pub fn status(self) -> StatusCode
         ensures { result ≡ status_of self }
     {
@@ -59,6 +61,7 @@ impl Reason {
             Reason::Forbidden | Reason::ReadOnly => StatusCode::FORBIDDEN,
             Reason::TooLong => StatusCode::URI_TOO_LONG,
             Reason::Outside => StatusCode::NOT_FOUND,
+            Reason::TooFar => StatusCode::PAYLOAD_TOO_LARGE,
         }
     }
 }
@@ -90,6 +93,7 @@ impl Admitted {
 #[derive(Drop)]
 pub enum Decision {
     Refused(RefusedRequest),
+    Look(Admitted),
     Run(Admitted),
 }
 
@@ -124,6 +128,7 @@ impl Model for Admission {
       moment = a.moment;
       seconds = a.seconds;
       random = a.random;
+      most_body = a.settings.most_body;
     } };
 
     ghost invariant = { λ a. a.moment ≤ last_moment };
@@ -194,7 +199,7 @@ fn refused(reason: Reason, user: String) -> Decision
 }
 
 impl Admission {
-    ghost use Rattle.std.specs.Prelude.{◌≡◌, ◌≤◌, ◌<◌, ◌↔◌, ℕ, Option, Some, None, IfErr, IfOk, IfSome, IsFalse, IsTrue, MatchOption, codes, map, min, option_map, replicate, string_bytes};
+    ghost use Rattle.std.specs.Prelude.{◌≡◌, ◌≤◌, ◌<◌, ◌↔◌, ℕ, List, Option, Some, None, IfErr, IfOk, IfSome, IsFalse, IsTrue, MatchOption, codes, map, min, option_map, replicate, string_bytes};
     ghost use Rattle.std.specs.Bool.{Decides};
     ghost use Rattle.std.specs.Option.{is_some, option_copied};
     ghost use Rattle.dav_access.specs.Principals.{IsRefusal};
@@ -202,7 +207,8 @@ impl Admission {
     ghost use Rattle.dav_access.specs.RulesText.{UserList};
     ghost use Rattle.dav_access.specs.Users.{IsName};
     ghost use Rattle.dav_core.specs.World.{last_moment};
-    ghost use Rattle.dav_live.specs.Admission.{HasManySlashes, HasLeaveIn, IsDecision, IsClosedTo, IsHeadKept, IsLetIn, IsMadeBy, IsOutside, IsRequestOf, TellsSafe, after_clocks, request_in, users_for, with_random};
+    ghost use Rattle.dav_http.specs.Placed.{BeginsPast};
+    ghost use Rattle.dav_live.specs.Admission.{HasManySlashes, HasLeaveIn, IsDecision, IsClosedTo, IsHeadKept, IsLetIn, IsMadeBy, LooksIn, MayAskIn, IsOutside, IsRequestOf, TellsSafe, after_clocks, request_in, users_for, with_random};
     ghost use Rattle.dav_live.specs.Hosts.{value_of};
     ghost use Rattle.dav_live.specs.Lists.{IsFaulty, Reports};
 
@@ -219,6 +225,7 @@ impl Admission {
           moment = min moment last_moment;
           seconds = None;
           random = replicate 16 0;
+          most_body = settings.most_body;
         } }
     {
         Admission {
@@ -306,6 +313,35 @@ impl Admission {
         }
     }
 
+    /// Whether a request may look, by rules, of which this head is kept, of this user, or, where there are no users, of nobody: at a
+    /// folder on the way.
+    pub fn may_look(&self, user: Option<&str>, kept: &[u8]) -> Result<bool, Stop>
+        ensures { IfOk result (λ may.
+            Decides may (LooksIn self.now (option_copied user.entry) kept.now)) }
+    {
+        if user.is_none() && self.users.is_some() {
+            return Ok(false);
+        }
+        match &self.rules {
+            Some(rules) => {
+                let below = self.settings.prefix.as_str();
+                Ok(may_look(self.alloc, rules, user, kept, below)?)
+            }
+            None => Ok(false),
+        }
+    }
+
+    /// Whether a request has leave of which this head is kept, of this user, or of nobody, or may look.
+    pub fn may_ask(&self, user: Option<&str>, kept: &[u8]) -> Result<bool, Stop>
+        ensures { IfOk result (λ may.
+            Decides may (MayAskIn self.now (option_copied user.entry) kept.now)) }
+    {
+        if self.has_leave(user, kept)? {
+            return Ok(true);
+        }
+        self.may_look(user, kept)
+    }
+
     /// Whether requests may only read, and this one may do more.
     pub fn is_closed_to(&self, head: &Head<'_>) -> bool
         ensures { IsTrue result ↔ IsClosedTo self.now head.now }
@@ -336,9 +372,39 @@ impl Admission {
         }
         let kept = self.kept_of(head)?;
         if !self.has_leave(principal.as_deref(), &kept)? {
-            return Ok(refused_of(self.alloc, reason_for(&principal), principal));
+            return self.look_of(principal, kept, head);
+        }
+        if begins_past(self.alloc, head, self.settings.most_body)? {
+            return Ok(refused_of(self.alloc, Reason::TooFar, principal));
         }
         Ok(Decision::Run(self.admitted(principal, kept, head, body, tokens)?))
+    }
+
+    // What becomes of a request that is let in, of which this head is kept, and that has no leave: it may look.
+    fn look_of(
+        &self,
+        principal: Option<String>,
+        bytes: Vec<u8>,
+        head: &Head<'_>,
+    ) -> Result<Decision, Stop>
+        requires let_in { IsLetIn self.now head.now (option_map string_bytes principal) }
+        requires few { ¬ HasManySlashes head.now }
+        requires inside { ¬ IsOutside self.now.prefix head.now }
+        requires open_to { ¬ IsClosedTo self.now head.now }
+        requires kept { IsHeadKept self.now head.now bytes.items }
+        requires lacks { ¬ HasLeaveIn self.now (option_map string_bytes principal) bytes.items }
+        ensures { (tokens : ℕ) (body : List ℕ)
+            → IfOk result (IsDecision self.now tokens head.now body) }
+    {
+        if !self.may_look(principal.as_deref(), &bytes)? {
+            return Ok(refused_of(self.alloc, reason_for(&principal), principal));
+        }
+        Ok(Decision::Look(Admitted {
+            head: bytes,
+            principal,
+            token: None,
+            only_reads: true,
+        }))
     }
 
     // What is run of a request that is let in, and has leave, of which this head is kept.
@@ -356,6 +422,7 @@ impl Admission {
         requires open_to { ¬ IsClosedTo self.now head.now }
         requires kept { IsHeadKept self.now head.now kept.items }
         requires leave { HasLeaveIn self.now (option_map string_bytes principal) kept.items }
+        requires within { ¬ BeginsPast self.now.most_body head.now }
         ensures request { IfOk result (λ admitted. IsRequestOf self.now tokens head.now body.now
             (request_in self.now admitted body.now)) }
         ensures safe { IfOk result (λ admitted. TellsSafe head.now admitted.only_reads) }

@@ -1,8 +1,10 @@
 //! What ends locks whose time has passed, how much room there is, and which requests aren't run.
-ghost use Rattle.std.specs.Prelude.{ℕ, List, Option, IfOk, option_map, string_bytes};
+ghost use Rattle.std.specs.Prelude.{◌≡◌, ℕ, List, Option, IfOk, OnOk, option_map, string_bytes};
 ghost use Rattle.std.specs.Option.{option_copied};
 ghost use Rattle.dav_access.specs.Rules.{Rules as RulesValue};
 ghost use Rattle.dav_http.specs.Refused.{Tells};
+ghost use Rattle.http_server.specs.declared.response.Response.{Response as Sent};
+ghost use Rattle.http_server.specs.Response.{IsBlank};
 ghost use Rattle.dav_kept.specs.Records.{RequestView};
 ghost use Rattle.dav_server.specs.Head.{Request};
 ghost use Rattle.dav_live.specs.Answers.{IsKeptFrom};
@@ -10,8 +12,9 @@ ghost use Rattle.dav_live.specs.Answers.{IsKeptFrom};
 use dav_access::Rules;
 use dav_core::errors::NoMemory;
 use dav_http::Head;
-use dav_kept::{Handles, Request as AskedRequest};
+use dav_kept::{Asks, HandleError, Handles, Request as AskedRequest};
 use http::StatusCode;
+use http_server::Response;
 
 /// A handler of locks that end in time, of room, and of requests that aren't run.
 pub trait Ends: Handles {
@@ -40,4 +43,38 @@ pub trait Ends: Handles {
         requires { IsKeptFrom head.now request.now.head }
         ensures { IfOk result (λ status.
             Tells (refuses (option_copied rules.entry) self.now head.now request.now) status) };
+
+    // By these rules, this is the response to a request that looks at a folder on the way to what its principal may read.
+    ghost looks: { RulesValue → Self → RequestView → Sent → Type 0 };
+
+    /// Fills the response, which comes blank, to a request that looks at a folder on the way to what its principal may read. The
+    /// state stays the same.
+    fn look(
+        &mut self,
+        rules: &Rules,
+        request: &AskedRequest<'_>,
+        response: &mut Response,
+    ) -> Result<(), HandleError>
+        requires { IsBlank response.old }
+        ensures looks { OnOk result (looks rules.now self.old request.now response.new) }
+        ensures same { OnOk result (self.new ≡ self.old) };
+}
+
+/// Who looks at a folder on the way, by these rules.
+#[derive(Clone, Copy)]
+pub struct ByRules<'r> {
+    pub rules: &'r Rules,
+}
+
+impl<'r, H: Ends> Asks<H> for ByRules<'r> {
+    ghost tells = { λ by server q sent. H.looks by.rules.now server q sent };
+
+    fn ask(
+        &self,
+        handler: &mut H,
+        request: &AskedRequest<'_>,
+        response: &mut Response,
+    ) -> Result<(), HandleError> {
+        handler.look(self.rules, request, response)
+    }
 }

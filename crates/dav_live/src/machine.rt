@@ -8,6 +8,7 @@ ghost use Rattle.dav_http.specs.Leaves.{Leaves};
 ghost use Rattle.dav_http.specs.Steps.{IsStepFor};
 ghost use Rattle.dav_kept.specs.declared.handler.Effect.TheVariants.{Left};
 ghost use Rattle.dav_live.specs.SavedRuns.{loads_what_was_saved};
+ghost use Rattle.dav_seen.specs.Ways.{IsWayReply};
 ghost use Rattle.dav_server.specs.Head.{IsHead};
 ghost use Rattle.dav_live.specs.Answers.{AsksToSee, IsAnswer, IsSentFor, barred_status, caller_of};
 
@@ -25,6 +26,7 @@ use dav_http::{
 use dav_kept::{Effect, HandleError, Handles, Request};
 use dav_presented::typed::with_types;
 use dav_saved::LoadError;
+use dav_seen::{LookError, way_reply};
 use http::StatusCode;
 use http_server::Response;
 use std::alloc::Global;
@@ -353,6 +355,79 @@ impl Machine {
     }
 }
 
+impl Machine {
+    // The reply to a request that looks at a folder on the way.
+    fn way_reply(&mut self, rules: &Rules, request: &Request<'_>) -> Result<Reply, HandleError>
+        ensures reply { IfOk result (IsWayReply rules.now self.old request.now.head
+            request.now.body (caller_of request.now)) }
+        ensures same { OnOk result (self.new ≡ self.old) }
+    {
+        let caller = caller_of(request);
+        let (head, body) = (request.head, request.body);
+        match way_reply(self.alloc, rules, &mut self.handler, head, body, &caller) {
+            Ok(reply) => Ok(reply),
+            Err(error) => Err(unseen(error)),
+        }
+    }
+
+    // Fills the response to a request that looks at a folder with the reply.
+    fn tell_way(
+        &self,
+        request: &Request<'_>,
+        reply: Reply,
+        response: &mut Response,
+    ) -> Result<(), HandleError>
+        requires { IsBlank response.old }
+        ensures { OnOk result (IsSentFor self.now request.now reply response.new) }
+    {
+        let _ = self.answer_with(request, reply, response)?;
+        Ok(())
+    }
+
+    // What is told of a folder on the way and its members, for a page.
+    fn way_told(&mut self, rules: &Rules, request: &Request<'_>) -> Result<Reply, HandleError>
+        ensures { OnOk result (self.new ≡ self.old) }
+    {
+        let head = page::asking_head(self.alloc, request.head)?;
+        let body = Bytes::from_static(page::ASKED);
+        let caller = caller_of(request);
+        match way_reply(self.alloc, rules, &mut self.handler, &head, &body, &caller) {
+            Ok(reply) => Ok(reply),
+            Err(error) => Err(unseen(error)),
+        }
+    }
+
+    // Fills the response to a request that looks at a folder with a page; where there is none with the reply.
+    fn show_way(
+        &mut self,
+        rules: &Rules,
+        request: &Request<'_>,
+        reply: Reply,
+        response: &mut Response,
+    ) -> Result<(), HandleError>
+        requires { IsBlank response.old }
+        ensures told { OnOk result ((response.new.status ≡ 200)
+            ⊎ IsSentFor self.old request.now reply response.new) }
+        ensures same { OnOk result (self.new ≡ self.old) }
+    {
+        let told = self.way_told(rules, request)?;
+        let is_head = is_head(method_of(request.head));
+        let prefix = self.handler.prefix();
+        if show_tree(self.alloc, told.body, prefix, is_head, response)? {
+            return Ok(());
+        }
+        self.tell_way(request, reply, response)
+    }
+}
+
+// Why a folder on the way isn't told of.
+fn unseen(error: LookError) -> HandleError {
+    match error {
+        LookError::Memory => HandleError::Memory,
+        LookError::Principal | LookError::Changed => HandleError::Malformed,
+    }
+}
+
 impl Handles for Machine {
     ghost answers = { λ old request response new. IsAnswer old request response new };
 
@@ -391,7 +466,7 @@ impl Handles for Machine {
 }
 
 impl Ends for Machine {
-    ghost use Rattle.dav_live.specs.Answers.{IsNextEnd, IsNotRun};
+    ghost use Rattle.dav_live.specs.Answers.{IsLook, IsNextEnd, IsNotRun};
 
     ghost ends = { λ server now head. IsNextEnd server.state.locks now head };
 
@@ -404,6 +479,23 @@ impl Ends for Machine {
 
     fn see_room(&self, available: u64) {
         self.available.set(available);
+    }
+
+    ghost looks = { λ rules server q sent. IsLook rules server q sent };
+
+    fn look(
+        &mut self,
+        rules: &Rules,
+        request: &Request<'_>,
+        response: &mut Response,
+    ) -> Result<(), HandleError> {
+        let reply = self.way_reply(rules, request)?;
+        let is_seen = is_for_folder(request.head, &reply);
+        if is_seen {
+            self.show_way(rules, request, reply, response)
+        } else {
+            self.tell_way(request, reply, response)
+        }
     }
 
     ghost refuses = { λ rules server came q status. IsNotRun rules server came q status };

@@ -66,6 +66,7 @@ impl<H: Ends + Drop, J: Keeps + Drop> Service<H, J> {
           moment = min (held_of s).latest last_moment;
           seconds = None;
           random = replicate 16 0;
+          most_body = settings.most_body;
         }) }
     {
         let kept = Kept::open(alloc, handler, journal, preface(settings.prefix.as_str()))?;

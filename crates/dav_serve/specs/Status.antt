@@ -26,5 +26,6 @@ status_refused (refusal.Options error) = 1
 status_refused (refusal.Prefix prefix) = 1
 status_refused (refusal.Unread path) = 1
 status_refused (refusal.Lists folder error) = 1
+status_refused (refusal.Unruled folder) = 1
 status_refused (refusal.State folder) = 1
 status_refused (refusal.OtherPrefix folder) = 1

@@ -1,7 +1,8 @@
 //! The program `dav-serve FOLDER [OPTION..]`: a live server over its standard input and output, which a front gives it. It keeps
 //! its state in FOLDER/state and FOLDER/state-wal, of which one counts.
 //!
-//! That a state was begun is told by FOLDER/state.begun: where that is there, and no block of the state, the state is gone.
+//! That a state was begun is told by FOLDER/state.begun: where that is there, and no block of the state, the state is gone. That there
+//! were rules of access is told by FOLDER/state.ruled: where that is there, and no FOLDER/access, a start is refused.
 //!
 //! Exit status: 0 the input ended; 1 the arguments, the folder, the users or the rules of access are wrong, or the state is in use; 2 a report wasn't
 //! understood, or a pipe failed; 3 memory ran out; 4 the state is damaged or of another version, and nothing was changed; 5 the disk
@@ -15,6 +16,7 @@ mod begun;
 mod options;
 mod refusal;
 mod rest;
+mod ruled;
 mod watcher;
 
 use begun::{note_begun, see_begun};
@@ -22,6 +24,7 @@ use dav_live::{Fault, Lists, ListsError, Live};
 use options::Options;
 use refusal::{Refusal, refused, status_of};
 use rest::keep_rest;
+use ruled::{note_ruled, see_ruled};
 use sqlite_disk::Files;
 use sqlite_std_file::{File, Unknown, open};
 use std::alloc::Global;
@@ -54,12 +57,16 @@ fn text_of(rt: &HostRuntime, path: String) -> Result<Option<Vec<u8>>, Refusal> {
     }
 }
 
-// The users and the rules of access of a folder, where it has files of them.
-fn lists_in(rt: &HostRuntime, alloc: Global, folder: &str) -> Result<Lists, Refusal> {
+// The users and the rules of access of a folder, where it has files of them, and whether it has rules: where it had some, and has none, it is
+// refused.
+fn lists_in(rt: &HostRuntime, alloc: Global, folder: &str) -> Result<(Lists, bool), Refusal> {
     let users = text_of(rt, format!(in alloc; "{folder}/users")?)?;
     let access = text_of(rt, format!(in alloc; "{folder}/access")?)?;
+    if access.is_none() {
+        see_ruled(rt, alloc, folder)?;
+    }
     match Lists::read(alloc, users.as_deref(), access.as_deref()) {
-        Ok(lists) => Ok(lists),
+        Ok(lists) => Ok((lists, access.is_some())),
         Err(ListsError::Memory) => Err(Refusal::Memory),
         Err(error) => Err(Refusal::Lists(String::from_str(alloc, folder)?, error)),
     }
@@ -68,7 +75,7 @@ fn lists_in(rt: &HostRuntime, alloc: Global, folder: &str) -> Result<Lists, Refu
 // The server of a folder.
 fn open_live(rt: &HostRuntime, alloc: Global, options: Options) -> Result<Live<File>, Refusal> {
     let Options { folder, settings } = options;
-    let lists = lists_in(rt, alloc, folder.as_str())?;
+    let (lists, is_ruled) = lists_in(rt, alloc, folder.as_str())?;
     let path = format!(in alloc; "{folder}/state")?;
     let Ok(files) = open(rt, path.as_str(), Unknown) else {
         return Err(Refusal::State(folder));
@@ -86,6 +93,9 @@ fn open_live(rt: &HostRuntime, alloc: Global, options: Options) -> Result<Live<F
         Err(error) => return Err(refused(folder, prefix, error)),
     }
     note_begun(rt, alloc, folder.as_str())?;
+    if is_ruled {
+        note_ruled(rt, alloc, folder.as_str())?;
+    }
     Ok(live)
 }
 

@@ -22,6 +22,9 @@ pub enum Refusal {
     /// The users or the rules of access of the folder aren't what they are to be.
     #[error("{0}/{1}")]
     Lists(String, ListsError),
+    /// The folder had rules of access, and has none.
+    #[error("{0}/access isn't there, and {0}/state.ruled says that there were rules (to let each user do everything, remove that too)")]
+    Unruled(String),
     /// The state of the folder can't be opened, or is in use.
     #[error("the state in {0} can't be opened: the folder is missing, or another server has it")]
     State(String),
@@ -87,6 +90,7 @@ pub fn status_of(refusal: &Refusal) -> u8
         | Refusal::Prefix(_)
         | Refusal::Unread(_)
         | Refusal::Lists(_, _)
+        | Refusal::Unruled(_)
         | Refusal::State(_)
         | Refusal::OtherPrefix(_) => 1,
     }

@@ -62,7 +62,7 @@ impl Admission {
             (λ r. IsRejected self.now head.now r.why (string_bytes r.user))) }
     {
         let kept = self.kept_of(head)?;
-        if self.has_leave(principal.as_deref(), &kept)? {
+        if self.may_ask(principal.as_deref(), &kept)? {
             return Ok(None);
         }
         Ok(Some(without_leave(self.alloc, principal)))

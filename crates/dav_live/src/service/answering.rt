@@ -8,7 +8,7 @@ ghost use Rattle.dav_live.specs.Serving.{IsDated};
 ghost use Rattle.http_server.specs.Response.{fields_of};
 
 use crate::admission::{Admitted, Decision, refuse, refuse_with};
-use crate::ends::Ends;
+use crate::ends::{ByRules, Ends};
 use crate::rejection::is_plain_read;
 use crate::service::{Service, stop_of};
 use crate::told::Replied;
@@ -23,21 +23,22 @@ use httpdate::HttpDate;
 use std::alloc::{AllocError, Global};
 
 impl<H: Ends + Drop, J: Keeps + Drop> Service<H, J> {
-    ghost use Rattle.std.specs.Prelude.{◌≡◌, ◌⊎◌, ℕ, List, [], None, OnOk, option_map, string_bytes};
+    ghost use Rattle.std.specs.Prelude.{◌≡◌, ◌⊎◌, ℕ, List, [], None, Some, OnOk, option_map, string_bytes};
     ghost use Rattle.std.specs.Option.{option_copied};
     ghost use Rattle.http_server.specs.declared.response.Response.{Response as Sent};
     ghost use Rattle.http_server.specs.Response.{IsBlank, IsResponse};
     ghost use Rattle.dav_server.specs.Head.{IsHead};
     ghost use Rattle.dav_live.specs.Numbered.{HasNumber};
     ghost use Rattle.dav_live.specs.Answers.{IsKeptFrom};
-    ghost use Rattle.dav_live.specs.Admission.{challenge_fields, request_in};
+    ghost use Rattle.dav_access.specs.Rules.{Rules as RulesValue};
+    ghost use Rattle.dav_live.specs.Admission.{LooksIn, challenge_fields, request_in};
     ghost use Rattle.dav_live.specs.Runs.{GoesOn};
     ghost use Rattle.dav_live.specs.Serving.{IsAccepted, IsReplyTo, IsResponseTo, IsRun, IsRunWhole, IsTimed, StaysAll, admission_of, belonging_to, held_of, kept_of, logins_of};
 
     // Answers a request. 400 where the bytes of its head are none (RFC 9110, section 15.5.1).
     fn respond(&mut self, asked: &Asked, response: &mut Response) -> Result<(), Stop>
         requires { IsBlank response.old }
-        ensures replies { OnOk result (IsReplyTo H.answers H.refuses (admission_of self.old)
+        ensures replies { OnOk result (IsReplyTo H.answers H.refuses H.looks (admission_of self.old)
             (logins_of self.old) (held_of self.old) asked.now response.new (held_of self.new)
             (logins_of self.new)) }
         ensures same { OnOk result (admission_of self.new ≡ admission_of self.old) }
@@ -62,7 +63,7 @@ impl<H: Ends + Drop, J: Keeps + Drop> Service<H, J> {
     ) -> Result<(), Stop>
         requires head { IsHead asked.now.head head.now }
         requires blank { IsBlank response.old }
-        ensures responds { OnOk result (IsResponseTo H.answers H.refuses (admission_of self.old)
+        ensures responds { OnOk result (IsResponseTo H.answers H.refuses H.looks (admission_of self.old)
             (held_of self.old) asked.now response.new (held_of self.new)) }
         ensures same { OnOk result (admission_of self.new ≡ admission_of self.old) }
         ensures logins { OnOk result (logins_of self.new ≡ logins_of self.old) }
@@ -74,6 +75,10 @@ impl<H: Ends + Drop, J: Keeps + Drop> Service<H, J> {
             Decision::Refused(refused) => {
                 refuse(refused.reason, response)?;
                 self.note(refused.user.as_str(), head, response)
+            }
+            Decision::Look(admitted) => {
+                self.look_by_rules(&admitted, &asked.body, response)?;
+                self.note(admitted.user(), head, response)
             }
             Decision::Run(admitted) => {
                 self.run_if_allowed(&admitted, head, &asked.body, response)?;
@@ -122,6 +127,36 @@ impl<H: Ends + Drop, J: Keeps + Drop> Service<H, J> {
                 Ok(())
             }
             None => self.run_whole(admitted.only_reads, &request, response),
+        }
+    }
+
+    // Answers a request that looks at a folder on the way.
+    fn look_by_rules(
+        &mut self,
+        admitted: &Admitted,
+        body: &Bytes,
+        response: &mut Response,
+    ) -> Result<(), Stop>
+        requires blank { IsBlank response.old }
+        requires looks { LooksIn (admission_of self.old)
+            (option_map string_bytes admitted.now.principal) admitted.now.head.items }
+        ensures looked { OnOk result ((rules : RulesValue)
+            × ((admission_of self.old).rules ≡ Some rules)
+            × H.looks rules (held_of self.old).state
+            (request_in (admission_of self.old) admitted.now body.now) response.new) }
+        ensures held { OnOk result (held_of self.new ≡ held_of self.old) }
+        ensures same { OnOk result (admission_of self.new ≡ admission_of self.old) }
+        ensures logins { OnOk result (logins_of self.new ≡ logins_of self.old) }
+        ensures goes_on { OnOk result
+            (GoesOn H.answers J.is_clean J.kept (kept_of self.old) (kept_of self.new)) }
+    {
+        let request = request_in(self.admission.moment(), admitted, body);
+        let Some(rules) = self.admission.rules() else {
+            unreachable!();
+        };
+        match self.kept.ask(&ByRules { rules }, &request, response) {
+            Ok(()) => Ok(()),
+            Err(error) => Err(stop_of(error)),
         }
     }
 
@@ -377,7 +412,7 @@ impl<H: Ends + Drop, J: Keeps + Drop> Answerer for Service<H, J> {
     ghost judges = { λ old head verdict new. IsJudged old head verdict new };
 
     ghost answers = { λ old asked response new.
-        Serves H.answers H.refuses J.is_clean J.kept old asked response new };
+        Serves H.answers H.refuses H.looks J.is_clean J.kept old asked response new };
 
     fn judge(&mut self, head: &[u8]) -> Result<Option<Rejection>, Stop> {
         if is_plain_read(head) {

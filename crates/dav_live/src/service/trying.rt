@@ -44,7 +44,7 @@ impl<H: Ends + Drop, J: Keeps + Drop> Service<H, J> {
     ) -> Result<(), Stop>
         requires head { IsHead asked.now.head head.now }
         requires blank { IsBlank response.old }
-        ensures replies { OnOk result (IsReplyTo H.answers H.refuses (admission_of self.old)
+        ensures replies { OnOk result (IsReplyTo H.answers H.refuses H.looks (admission_of self.old)
             (logins_of self.old) (held_of self.old) asked.now response.new (held_of self.new)
             (logins_of self.new)) }
         ensures same { OnOk result (admission_of self.new ≡ admission_of self.old) }

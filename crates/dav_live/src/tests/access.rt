@@ -22,7 +22,7 @@ write  /anna    anna
 ";
 
 /// Who is shown, in Base64, or `-`, and the lines of a head, between bars, below the prefix `/dav`: what becomes of it by users and rules,
-/// by rules alone that name everybody, and by users alone; `run` or a status, with the user.
+/// by rules alone that name everybody, and by users alone; `run`, `look` or a status, with the user.
 const REQUESTS: &str = "\
 # nobody is shown: 401 where nobody may
 - | GET /dav/public/a -> run, run, 401
@@ -35,7 +35,24 @@ YW5uYTph | GET /dav/shared/a -> run anna, 401, run anna
 YW5uYTph | PUT /dav/shared/a -> 403 anna, 401, run anna
 YW5uYTph | PUT /dav/anna/a -> run anna, 401, run anna
 YmVuOmI= | PUT /dav/anna/a -> 403 ben, 401, run ben
-YmVuOmI= | GET /dav -> 403 ben, 401, run ben
+# a folder on the way may be looked at, of paths of If that may be read
+YmVuOmI= | GET /dav -> look ben, look, run ben
+- | PROPFIND /dav/ -> 401, look, 401
+YW5uYTph | OPTIONS /dav -> look anna, look, run anna
+YW5uYTph | HEAD /dav/x/.. -> look anna, look, run anna
+YW5uYTph | PROPPATCH /dav -> 403 anna, 401, run anna
+YW5uYTph | PROPFIND /dav/ben -> 403 anna, 401, run anna
+YW5uYTph | PROPFIND /dav | If: </dav/ben> (<urn:t>) -> 403 anna, 401, run anna
+YW5uYTph | PROPFIND /dav | If: </dav/anna> (<urn:t>) -> look anna, 401, run anna
+# the most bytes of a body are the most that a place may be
+YW5uYTph | PATCH /dav/anna/a | X-Update-Range: bytes=1000000- -> run anna, 401, run anna
+YW5uYTph | PATCH /dav/anna/a | X-Update-Range: bytes=1000001- -> 413 anna, 401, 413 anna
+YW5uYTph | PATCH /dav/anna/a | X-Update-Range: bytes=1000000000000-1000000000003 -> 413 anna, 401, 413 anna
+YW5uYTph | PUT /dav/anna/a | Content-Range: bytes 1000001-1000001/* -> 413 anna, 401, 413 anna
+YW5uYTph | PUT /dav/shared/a | Content-Range: bytes 1000001-1000001/* -> 403 anna, 401, 413 anna
+YW5uYTph | PATCH /dav/anna/a | X-Update-Range: append -> run anna, 401, run anna
+YW5uYTph | PATCH /dav/anna/a | X-Update-Range: bytes=-5 -> run anna, 401, run anna
+YW5uYTph | GET /dav/anna/a | X-Update-Range: bytes=1000001- -> run anna, 401, run anna
 # a wrong password, a stranger, and what is no name and password: 401, also for what everybody may read
 YW5uYTp4 | GET /dav/public/a -> 401 anna, run, 401 anna
 ZG9yYTph | GET /dav/public/a -> 401 dora, run, 401 dora
@@ -69,6 +86,8 @@ YW5uYTph | PUT /dav/anna/a -> -
 YW5uYTph | PUT /dav/shared/a -> 403 anna
 YW5uYTph | PUT /dav/anna/a | If: </dav/ben/b> ([\"1\"]) -> 403 anna
 YW5uYTph | PUT /other/a -> -
+YW5uYTph | PROPFIND /dav -> -
+YW5uYTph | PROPFIND /dav/ben -> 403 anna
 ";
 
 /// The lists of users and the rules, each line after `;`, and `-` where there is none: what is wrong with them, or `ok`.
@@ -159,6 +178,7 @@ fn decided(alloc: Global, admission: &mut Admission, head: &Head<'_>) -> Result<
     };
     match decision {
         Decision::Run(admitted) => said(alloc, "run", admitted.user()),
+        Decision::Look(admitted) => said(alloc, "look", admitted.user()),
         Decision::Refused(refused) => {
             let status = match refused.reason {
                 Reason::Misdirected => "421",
@@ -166,6 +186,7 @@ fn decided(alloc: Global, admission: &mut Admission, head: &Head<'_>) -> Result<
                 Reason::Forbidden | Reason::ReadOnly => "403",
                 Reason::TooLong => "414",
                 Reason::Outside => "404",
+                Reason::TooFar => "413",
             };
             said(alloc, status, refused.user.as_str())
         }

@@ -1,7 +1,8 @@
 use Rattle.std.proofs.Common.{◌≡◌, ◌∙◌, List, ℕ, Option, sym, ap, subst, true≢false, rules, string_bytes, option_map}
 use Rattle.std.specs.Option.{option_copied}
-use Rattle.dav_live.specs.Admission.{AdmissionView, HasLeaveIn, HasManySlashes, IsClosedTo, IsOutside, closed, outside, reason_for, too_long, without_leave}
-use Rattle.dav_live.specs.declared.admission.Reason.TheVariants.{Outside, ReadOnly, TooLong}
+use Rattle.dav_http.specs.Placed.{BeginsPast}
+use Rattle.dav_live.specs.Admission.{AdmissionView, HasLeaveIn, HasManySlashes, IsClosedTo, IsOutside, closed, outside, too_far, too_long}
+use Rattle.dav_live.specs.declared.admission.Reason.TheVariants.{Outside, ReadOnly, TooFar, TooLong}
 use Rattle.dav_live.proofs.AdmissionLemmas.{turned_away}
 use Rattle.dav_live.proofs.admission.Admission.admit.Goals as goal
 
@@ -31,17 +32,21 @@ returns-then-is_closed_to c =
     turned_away c.args.self.now c.args.tokens c.args.head.now c.args.body.now c.refused_of-then-is_closed_to.result r.0 ReadOnly _ r.1 r.2 r.3
     (closed (option_map string_bytes c.args.principal) c.requires.let_in few (subst (λ p. ¬ IsOutside p c.args.head.now) prefix inside) is)
 
-pub returns-then-not-branch : goal.returns-then-not-branch
-returns-then-not-branch c =
+pub returns-then-branch-begins_past : goal.returns-then-branch-begins_past
+returns-then-branch-begins_past c =
     let a = c.args.self.now in
     let who = option_map string_bytes c.args.principal in
-    let r = c.refused_of-then-not-branch.ensures in
+    let r = c.refused_of-then-branch-begins_past.ensures in
     let few : ¬ HasManySlashes c.args.head.now = search rules in
     let prefix : c.as_str.result.now ≡ a.prefix = c.as_str.ensures.value ∙ ap (λ (v : AdmissionView). v.prefix) c.self.view_is in
     let inside : ¬ IsOutside c.as_str.result.now c.args.head.now = λ is. true≢false (sym (c.in_ok-is_outside.ensures.1 is) ∙ c.if-branch.false) in
     let free : ¬ IsClosedTo a c.args.head.now = search rules in
     let lent : option_copied c.as_deref.result ≡ who = search rules in
-    let lacks : ¬ HasLeaveIn a (option_copied c.as_deref.result) c.deref.result.now = λ leave. true≢false (sym (c.in_ok-has_leave.ensures.1 leave) ∙ c.if-not-branch.true) in
-    turned_away a c.args.tokens c.args.head.now c.args.body.now c.refused_of-then-not-branch.result r.0 (reason_for who) _ r.1 (r.2 ∙ c.reason_for.ensures) r.3
-    (without_leave who c.in_ok-kept.kept.items c.requires.let_in few (subst (λ p. ¬ IsOutside p c.args.head.now) prefix inside) free c.in_ok-kept.ensures
-    (subst (λ (u : Option (List ℕ)). ¬ HasLeaveIn a u c.in_ok-kept.kept.items) lent (subst (λ (b : List ℕ). ¬ HasLeaveIn a (option_copied c.as_deref.result) b) c.deref.ensures.value lacks)))
+    let has : HasLeaveIn a (option_copied c.as_deref.result) c.deref.result.now = search rules in
+    let past : BeginsPast a.most_body c.args.head.now = search rules in
+    turned_away a c.args.tokens c.args.head.now c.args.body.now c.refused_of-then-branch-begins_past.result r.0 TooFar _ r.1 r.2 r.3
+    (too_far who c.in_ok-kept.kept.items c.requires.let_in few (subst (λ p. ¬ IsOutside p c.args.head.now) prefix inside) free c.in_ok-kept.ensures
+    (subst (λ (u : Option (List ℕ)). HasLeaveIn a u c.in_ok-kept.kept.items) lent (subst (λ (b : List ℕ). HasLeaveIn a (option_copied c.as_deref.result) b) c.deref.ensures.value has)) past)
+
+pub returns-then-not-branch : goal.returns-then-not-branch
+returns-then-not-branch c = c.look_of.ensures c.args.tokens c.args.body.now

@@ -17,7 +17,7 @@ returns-in_default-clause-replies g c =
     let none : (name password : List ℕ) → ¬ ShowsLogin a c.args.head.now name password =
     at_none (λ (x : Credentials). ShowsLogin a c.args.head.now (string_bytes x.name) (string_bytes x.password)) c.in_ok-login.field-0 c.in_default.is c.in_ok-login.ensures in
     on_three c.respond_to.result
-    (λ responds known goes. replied_bare g.H.Handles.answers g.H.Ends.refuses a (logins_of c.args.self.now) (held_of c.args.self.now) c.args.asked.now c.args.head.now c.requires.head
+    (λ responds known goes. replied_bare g.H.Handles.answers g.H.Ends.refuses g.H.Ends.looks a (logins_of c.args.self.now) (held_of c.args.self.now) c.args.asked.now c.args.head.now c.requires.head
     c.respond_to.new.response (held_of c.respond_to.new.self) (logins_of c.respond_to.new.self) none responds known)
     c.respond_to.ensures.responds c.respond_to.ensures.logins c.respond_to.ensures.goes_on
 
@@ -35,9 +35,9 @@ returns-in-0-clause-replies g c =
     let status : c.as_u16.result ≡ c.respond_to-in-0.new.response.status = c.as_u16.ensures.value in
     let at : seconds_of (admission_of c.respond_to-in-0.new.self) ≡ seconds_of a = ap seconds_of done.same in
     on_three c.see_login.result
-    (λ wrong right other. replied_heard g.H.Handles.answers g.H.Ends.refuses a l (held_of c.args.self.now) c.args.asked.now c.args.head.now c.requires.head
+    (λ wrong right other. replied_heard g.H.Handles.answers g.H.Ends.refuses g.H.Ends.looks a l (held_of c.args.self.now) c.args.asked.now c.args.head.now c.requires.head
     c.respond_to-in-0.new.response (held_of c.see_login.new.self) (logins_of c.see_login.new.self) name password shows free
-    (subst (λ (k : Kept g.row.H.Denot g.row.J.Denot). IsResponseTo g.H.Handles.answers g.H.Ends.refuses a (held_of c.args.self.now) c.args.asked.now c.respond_to-in-0.new.response (held_by k))
+    (subst (λ (k : Kept g.row.H.Denot g.row.J.Denot). IsResponseTo g.H.Handles.answers g.H.Ends.refuses g.H.Ends.looks a (held_of c.args.self.now) c.args.asked.now c.respond_to-in-0.new.response (held_by k))
     (sym c.see_login.ensures.same.1) done.responds)
     (seen_login a l c.args.head.now c.respond_to-in-0.new.response.status (logins_of c.see_login.new.self) name password shows
     (λ is. wrong (status ∙ is) ∙ ap (λ (n : ℕ). after_wrong (logins_of c.respond_to-in-0.new.self) name password n) at
@@ -56,7 +56,7 @@ returns-clause-replies g c =
     c.in-Some.is c.in_ok-login.ensures in
     let some : c.wait_for.result ≢ 0 = search rules in
     holds_on c.note.result
-    (replied_wait g.H.Handles.answers g.H.Ends.refuses a (logins_of c.args.self.now) (held_of c.args.self.now) c.args.asked.now c.args.head.now c.requires.head
+    (replied_wait g.H.Handles.answers g.H.Ends.refuses g.H.Ends.looks a (logins_of c.args.self.now) (held_of c.args.self.now) c.args.asked.now c.args.head.now c.requires.head
     c.fill_wait.new.response (held_of c.note.new.self) (logins_of c.note.new.self) name password c.wait_for.result shows c.wait_for.ensures some
     c.in_ok-fill_wait-in_default-wait_for.ensures (ap (λ (k : Kept g.row.H.Denot g.row.J.Denot). held_by k) c.note.ensures.same.1) c.note.ensures.logins)
 

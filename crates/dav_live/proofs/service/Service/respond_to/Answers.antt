@@ -1,11 +1,11 @@
-use Rattle.std.proofs.Common.{ℕ, option_map, string_bytes, ap, subst}
+use Rattle.std.proofs.Common.{ℕ, option_map, string_bytes, ap, subst, sym}
 use Rattle.dav_kept.specs.Kept.{held_by}
 use Rattle.dav_kept.specs.declared.kept.Kept.{Kept}
-use Rattle.dav_live.specs.Admission.{IsDecision, IsRequestOf, request_in}
+use Rattle.dav_live.specs.Admission.{AdmissionView, IsDecision, IsRequestOf, LooksIn, request_in}
 use Rattle.dav_live.specs.Numbered.{HasNumber}
 use Rattle.dav_live.specs.Serving.{held_of, kept_of, turned_away}
 use Rattle.dav_live.proofs.RunLemmas.{goes_on_same}
-use Rattle.dav_live.proofs.ServingLemmas.{holds_on, number_of, ran_or_not}
+use Rattle.dav_live.proofs.ServingLemmas.{holds_on, number_of, ran_or_not, way_shown}
 use Rattle.dav_live.proofs.service.Service.respond_to.Goals as goal
 
 pub run_if_allowed-requires-clause-number : goal.run_if_allowed-requires-clause-number
@@ -33,6 +33,23 @@ pub returns-in_ok-refuse-in-Refused-clause-goes_on : goal.returns-in_ok-refuse-i
 returns-in_ok-refuse-in-Refused-clause-goes_on g c =
     holds_on c.note.result (goes_on_same g.H.Handles.answers g.J.Keeps.is_clean g.J.Keeps.kept (kept_of c.args.self.now) (kept_of c.note.new.self) c.note.ensures.same.1)
 
+pub look_by_rules-requires-clause-looks : goal.look_by_rules-requires-clause-looks
+look_by_rules-requires-clause-looks g c =
+    let a = c.args.self.now.admission in
+    let d = subst (IsDecision a c.tokens-tokens.result c.args.head.now c.args.asked.now.body) c.in-Look.is c.in_ok-refused.ensures.decision in
+    subst (λ (x : AdmissionView). LooksIn x (option_map string_bytes c.in-Look.admitted.principal) c.in-Look.admitted.head.items) (sym c.in_ok-refused.ensures.same) d.looks
+
+pub returns-in_ok-look_by_rules-in-Look-clause-responds : goal.returns-in_ok-look_by_rules-in-Look-clause-responds
+returns-in_ok-look_by_rules-in-Look-clause-responds g c =
+    let a = c.args.self.now.admission in
+    let body = c.args.asked.now.body in
+    let admitted = c.in-Look.admitted in
+    let d = subst (IsDecision a c.tokens-tokens.result c.args.head.now body) c.in-Look.is c.in_ok-refused.ensures.decision in
+    holds_on c.note-in-Look.result
+    (way_shown g.H.Handles.answers g.H.Ends.refuses g.H.Ends.looks a _ (held_of c.args.self.now) (held_of c.look_by_rules.new.self) (held_of c.note-in-Look.new.self) c.args.asked.now c.args.head.now admitted c.look_by_rules.new.response
+    c.requires.head d c.in_ok-refused.ensures.same (ap (λ (k : Kept g.row.H.Denot g.row.J.Denot). held_by k) c.note-in-Look.ensures.same.1)
+    c.in_ok-look_by_rules-in-Look.ensures.looked c.in_ok-look_by_rules-in-Look.ensures.held)
+
 pub returns-in_ok-run_if_allowed-in-Run-clause-responds : goal.returns-in_ok-run_if_allowed-in-Run-clause-responds
 returns-in_ok-run_if_allowed-in-Run-clause-responds g c =
     let a = c.args.self.now.admission in
@@ -41,5 +58,5 @@ returns-in_ok-run_if_allowed-in-Run-clause-responds g c =
     let d = subst (IsDecision a c.tokens-tokens.result c.args.head.now body) c.in-Run.is c.in_ok-refused.ensures.decision in
     let request = subst (λ (n : ℕ). IsRequestOf a n c.args.head.now body (request_in a admitted body)) c.tokens-tokens.ensures d.0 in
     holds_on c.note-in-Run.result
-    (ran_or_not g.H.Handles.answers g.H.Ends.refuses a _ (held_of c.args.self.now) (held_of c.run_if_allowed.new.self) (held_of c.note-in-Run.new.self) c.args.asked.now c.args.head.now admitted c.run_if_allowed.new.response
+    (ran_or_not g.H.Handles.answers g.H.Ends.refuses g.H.Ends.looks a _ (held_of c.args.self.now) (held_of c.run_if_allowed.new.self) (held_of c.note-in-Run.new.self) c.args.asked.now c.args.head.now admitted c.run_if_allowed.new.response
     c.requires.head request c.in_ok-refused.ensures.same (ap (λ (k : Kept g.row.H.Denot g.row.J.Denot). held_by k) c.note-in-Run.ensures.same.1) c.in_ok-run_if_allowed-in-Run.ensures.ran)

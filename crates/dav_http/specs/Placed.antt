@@ -1,0 +1,27 @@
+-- Where a PUT or PATCH begins to write that names a place in its file (RFC 9110, section 14.4; SabreDAV's partial update by PATCH).
+use Rattle.std.specs.Prelude.{◌≡◌, ◌⊎◌, ◌<◌, ℕ, List, Option, Some, codes}
+use Rattle.http_header.specs.FieldValue.{FieldValue}
+use Rattle.http_header.specs.HeaderMap.{get_all}
+use Rattle.dav_headers.specs.ContentRange.{IsContentRange}
+use Rattle.dav_headers.specs.UpdateRange.{IsUpdateRange}
+use Rattle.dav_headers.specs.declared.range.XUpdateRange.TheVariants.{AllFrom, FromTo}
+use Rattle.dav_engine.specs.Headers.{Headers}
+use Rattle.dav_server.specs.Head.{Request}
+use Rattle.dav_server.specs.Headers.{headers_of}
+
+-- these values of Content-Range name bytes from this one on (RFC 9110, section 14.4)
+abbrev pub IsRangedFrom : List FieldValue → ℕ → Type 0
+IsRangedFrom values first = (last : ℕ) × (length : Option ℕ) × IsContentRange values (record { bounds = Some (first, last); length = length })
+
+-- these values of X-Update-Range name bytes from this one on
+abbrev pub IsUpdatedFrom : List FieldValue → ℕ → Type 0
+IsUpdatedFrom values first = ((last : ℕ) × IsUpdateRange values (FromTo first last)) ⊎ IsUpdateRange values (AllFrom first)
+
+-- a request names this byte of its file as the first one that it writes
+abbrev pub NamesFirst : Headers → ℕ → Type 0
+NamesFirst headers first = IsRangedFrom (get_all headers (codes "content-range")) first ⊎ IsUpdatedFrom (get_all headers (codes "x-update-range")) first
+
+-- A PUT or PATCH begins to write past so many bytes, so that the file would have more of them, whatever it has now.
+abbrev pub BeginsPast : ℕ → Request → Type 0
+BeginsPast most r =
+    ((r.method ≡ codes "PUT") ⊎ (r.method ≡ codes "PATCH")) × ((first : ℕ) × NamesFirst (headers_of r.fields) first × (most < first))

@@ -1,0 +1,16 @@
+use Rattle.std.proofs.Common.{◌≡◌, ◌∙◌, None, List, ℕ, Option, refl, sym, subst, true≢false, rules, string_bytes, option_map}
+use Rattle.std.specs.Option.{option_copied}
+use Rattle.dav_live.specs.Admission.{LooksIn, reason_for, without_leave}
+use Rattle.dav_live.proofs.AdmissionLemmas.{turned_away}
+use Rattle.dav_live.proofs.admission.Admission.look_of.Goals as goal
+
+pub returns-then-not-branch : goal.returns-then-not-branch
+returns-then-not-branch c tokens body =
+    let a = c.args.self.now in
+    let who = option_map string_bytes c.args.principal in
+    let r = c.refused_of.ensures in
+    let lent : option_copied c.as_deref.result ≡ who = search rules in
+    let lacks : ¬ LooksIn a (option_copied c.as_deref.result) c.deref.result.now = λ looks. true≢false (sym (c.in_ok-may_look.ensures.1 looks) ∙ c.if-not-branch.true) in
+    turned_away a tokens c.args.head.now body c.refused_of.result r.0 (reason_for who) _ r.1 (r.2 ∙ c.reason_for.ensures) r.3
+    (without_leave who c.args.bytes.items c.requires.let_in c.requires.few c.requires.inside c.requires.open_to c.requires.kept c.requires.lacks
+    (subst (λ (u : Option (List ℕ)). ¬ LooksIn a u c.args.bytes.items) lent (subst (λ (b : List ℕ). ¬ LooksIn a (option_copied c.as_deref.result) b) c.deref.ensures.value lacks)))

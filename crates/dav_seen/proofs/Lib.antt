@@ -1,0 +1,3 @@
+mod LoopLemmas
+mod ReplyLemmas
+pub mod SightLemmas
