@@ -1,5 +1,5 @@
 -- What becomes of a request.
-use Rattle.std.proofs.Common.{◌≡◌, ◌≢◌, ◌<◌, ◌^◌, ◌↔◌, ◌==◌, ◌∷◌, ℕ, Bool, false, true, IsTrue, arith, IfOk, IfSome, OnOk, List, [], length, get_or, Option, None, Some, Result, Ok, Err, String, option_map, unwrap_or, codes, inl, inr, refl, sym, subst, string_bytes, true≢false, ◌∙◌}
+use Rattle.std.proofs.Common.{◌≡◌, ◌≢◌, ◌⊎◌, ◌<◌, ◌^◌, ◌↔◌, ◌==◌, ◌∷◌, ℕ, Bool, false, true, IsTrue, arith, IfOk, IfSome, OnOk, List, [], length, get_or, Option, None, Some, Result, Ok, Err, String, option_map, unwrap_or, codes, inl, inr, refl, sym, subst, string_bytes, true≢false, ◌∙◌}
 use Rattle.std.proofs.lemmas.List.Elements.{All-from_get_or}
 use Rattle.std.proofs.lemmas.Bool.Decides.{nat_tests}
 use Rattle.std.specs.Bool.{Decides}
@@ -84,6 +84,25 @@ no_look a user head none = (
   λ yes. absurd (true≢false (sym yes)),
   λ looks. let (named, (others, also, permits)) = looks in let same : Some others ≡ None = sym also ∙ none in cc,
 )
+
+-- who isn't told doesn't look
+pub untold_look : (a : AdmissionView) (user : Option (List ℕ)) (head : List ℕ) (told : Bool) → told ≡ false
+    → Decides told ((user ≢ None) ⊎ (a.users ≡ None)) → Decides false (LooksIn a user head)
+untold_look a user head told not decides = (
+  λ yes. absurd (true≢false (sym yes)),
+  λ looks. absurd (true≢false (sym (decides.1 looks.0) ∙ not)),
+)
+
+-- who has no leave may ask where he looks
+pub asks_by : {E : Type 0} (Leave Look : Type 0) (has : Bool) (r : Result Bool E) → has ≡ false → Decides has Leave → IfOk r (λ may. Decides may Look) → IfOk r (λ may. Decides may (Leave ⊎ Look))
+asks_by Leave Look has (Ok may) not decides is = (
+  λ yes. inr (is.0 yes),
+  λ either. elim either [
+    | inl leave ↦ absurd (true≢false (sym (decides.1 leave) ∙ not))
+    | inr look ↦ is.1 look
+  ],
+)
+asks_by Leave Look has (Err e) not decides is = is
 
 -- ---- paths outside of the prefix
 

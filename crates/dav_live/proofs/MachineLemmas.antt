@@ -1,5 +1,5 @@
 -- What the answer of a machine is, by its parts.
-use Rattle.std.proofs.Common.{Bool, IfOk, Result, Ok, Err, true, false, not, true≢false, codes, ◌≢◌, ◌≡◌, ◌⊎◌, inl, inr, ℕ, List, Option, Some, None, ap, refl, subst, sym, ◌∙◌}
+use Rattle.std.proofs.Common.{Bool, IfOk, OnOk, Result, Ok, Err, true, false, not, true≢false, codes, ◌≢◌, ◌≡◌, ◌⊎◌, inl, inr, ℕ, List, Option, Some, None, ap, refl, subst, sym, ◌∙◌}
 use Rattle.std.specs.Bool.{Decides}
 use Rattle.http_server.specs.declared.response.Response.{Response}
 use Rattle.dav_core.specs.declared.method.DavMethod.TheVariants.{Get, Head}
@@ -17,8 +17,9 @@ use Rattle.dav_kept.specs.Records.{RequestView}
 use Rattle.dav_http.specs.Kept.{IsKeptOf, depthless, lock, other}
 use Rattle.dav_http.specs.Refused.{MayBeRefused, Refuses, Tells}
 use Rattle.dav_http.proofs.RefusedLemmas.{may_be_refused, said_of}
+use Rattle.dav_seen.specs.Ways.{IsWayReply}
 use Rattle.dav_live.proofs.AdmissionLemmas.{exchange_with}
-use Rattle.dav_live.specs.Answers.{AsksToSee, IsAnswer, IsBarred, IsForeignUnlock, IsKeptFrom, IsNotRun, IsSentFor, MayUnlockIn, barred, caller_of, refused, replied, shown}
+use Rattle.dav_live.specs.Answers.{AsksToSee, IsAnswer, IsBarred, IsForeignUnlock, IsKeptFrom, IsLook, IsNotRun, IsSentFor, MayUnlockIn, barred, caller_of, refused, replied, seen, shown, told}
 
 -- a GET or HEAD leaves the server
 seeing_leaves : (head : List ℕ) (status : ℕ) → AsksToSee head → Leaves head status
@@ -39,6 +40,23 @@ module _ (old mid : Server) (q : RequestView) (head : List ℕ) (same : head ≡
 
   pub reply_answered : IsSentFor mid q reply sent → IsAnswer old q sent mid
   reply_answered is_sent = replied reply step is_sent
+
+-- ---- looks
+
+-- what is so where a call did what it was to do
+pub where_ok : {A E : Type 0} (P Q : Type 0) (r : Result A E) → (P → Q) → OnOk r P → OnOk r Q
+where_ok P Q (Ok a) then is = then is
+where_ok P Q (Err e) then is = is
+
+module _ (rules : Rules) (s mid : Server) (same : mid ≡ s) (q : RequestView) (reply : Reply) (way : IsWayReply rules s q.head q.body (caller_of q) reply) (sent : Response) where
+  -- the reply is sent
+  pub way_told : IsSentFor mid q reply sent → IsLook rules s q sent
+  way_told is = told reply way (subst (λ (t : Server). IsSentFor t q reply sent) same is)
+
+  -- or a page
+  pub way_seen : (head : List ℕ) → head ≡ q.head → (reply.status ≡ 405) × AsksToSee head → (sent.status ≡ 200) ⊎ IsSentFor mid q reply sent → IsLook rules s q sent
+  way_seen head asked for_folder (inl page) = seen reply (subst AsksToSee asked for_folder.1) way for_folder.0 page
+  way_seen head asked for_folder (inr is) = way_told is
 
 -- ---- what isn't run
 

@@ -199,7 +199,7 @@ fn refused(reason: Reason, user: String) -> Decision
 }
 
 impl Admission {
-    ghost use Rattle.std.specs.Prelude.{◌≡◌, ◌≤◌, ◌<◌, ◌↔◌, ℕ, List, Option, Some, None, IfErr, IfOk, IfSome, IsFalse, IsTrue, MatchOption, codes, map, min, option_map, replicate, string_bytes};
+    ghost use Rattle.std.specs.Prelude.{◌≡◌, ◌≢◌, ◌⊎◌, ◌≤◌, ◌<◌, ◌↔◌, ℕ, List, Option, Some, None, IfErr, IfOk, IfSome, IsFalse, IsTrue, MatchOption, codes, map, min, option_map, replicate, string_bytes};
     ghost use Rattle.std.specs.Bool.{Decides};
     ghost use Rattle.std.specs.Option.{is_some, option_copied};
     ghost use Rattle.dav_access.specs.Principals.{IsRefusal};
@@ -313,13 +313,21 @@ impl Admission {
         }
     }
 
+    // Whether this user may be told of folders on the way, or, where there are no users, nobody may.
+    fn is_told(&self, user: Option<&str>) -> bool
+        ensures { Decides result
+            ((option_copied user.entry ≢ None) ⊎ (self.now.users ≡ None)) }
+    {
+        user.is_some() || self.users.is_none()
+    }
+
     /// Whether a request may look, by rules, of which this head is kept, of this user, or, where there are no users, of nobody: at a
     /// folder on the way.
     pub fn may_look(&self, user: Option<&str>, kept: &[u8]) -> Result<bool, Stop>
         ensures { IfOk result (λ may.
             Decides may (LooksIn self.now (option_copied user.entry) kept.now)) }
     {
-        if user.is_none() && self.users.is_some() {
+        if !self.is_told(user) {
             return Ok(false);
         }
         match &self.rules {

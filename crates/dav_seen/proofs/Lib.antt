@@ -1,3 +1,5 @@
 mod LoopLemmas
+mod MemberLemmas
 mod ReplyLemmas
 pub mod SightLemmas
+mod WayLemmas

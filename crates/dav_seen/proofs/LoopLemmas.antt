@@ -1,5 +1,6 @@
 -- The turns of the loops over members.
-use Rattle.std.proofs.Common.{◌≡◌, ◌+◌, ◌<◌, ◌++◌, ℕ, List, [], ◌∷◌, map, take, false, length, get_or, suc, take-suc, arith, refl, sym, ap, ◌∙◌, append_assoc, append-nil}
+use Rattle.std.proofs.Common.{◌≡◌, ◌+◌, ◌<◌, ◌++◌, ℕ, List, [], ◌∷◌, map, take, false, length, get_or, suc, take-suc, arith, refl, sym, ap, subst, ◌∙◌, append_assoc, append-nil}
+use Rattle.std.proofs.lemmas.List.{map-append}
 use Rattle.dav_core.specs.Element.{ElementTree, with_child}
 use Rattle.dav_core.specs.Path.{PathText}
 use Rattle.dav_engine.specs.Caller.{Caller}
@@ -29,9 +30,22 @@ way_turn paths i p old new child within at so_far one added =
     ∙ ap (λ ps. multistatus (map way_response ps)) (sym (taken_more paths i p within at))
 
 -- what is told of one member more
-pub told_more : (rules : Rules) (s : Server) (bytes : List ℕ) (who : Caller) (p : PathText) (members : List (List ℕ)) (name : List ℕ) (told one : List ElementTree)
+told_more : (rules : Rules) (s : Server) (bytes : List ℕ) (who : Caller) (p : PathText) (members : List (List ℕ)) (name : List ℕ) (told one : List ElementTree)
     → AreTold rules s bytes who p members told → IsMemberTold rules s bytes who (child_of p name false) one → AreTold rules s bytes who p (members ++ name ∷ []) (told ++ one)
 told_more rules s bytes who p [] name told one none is =
     (one, [], is, refl, ap (λ ts. ts ++ one) none ∙ sym (append-nil one))
 told_more rules s bytes who p (n ∷ members) name told one (first, others, member, more, told_is) is =
     (first, others ++ one, member, told_more rules s bytes who p members name others one more is, ap (λ ts. ts ++ one) told_is ∙ append_assoc first others one)
+
+-- what is told after one turn more
+pub told_turn : {A : Type 0} (f : A → List ℕ) (ms : List A) (i : ℕ) (d : A) (rules : Rules) (s t : Server) (bytes : List ℕ) (who : Caller) (p q : PathText)
+    (olds more news : List ElementTree) → i < length ms → AreTold rules s bytes who p (map f (take i ms)) olds → t ≡ s → q ≡ child_of p (f (get_or ms i d)) false
+    → IsMemberTold rules t bytes who q more → news ≡ olds ++ more → AreTold rules s bytes who p (map f (take (i + 1) ms)) news
+told_turn f ms i d rules s t bytes who p q olds more news within so_far same at one all =
+    let names_more : map f (take (i + 1) ms) ≡ map f (take i ms) ++ f (get_or ms i d) ∷ [] =
+    ap (λ k. map f (take k ms)) (one_more i) ∙ ap (map f) (take-suc ms i d within) ∙ map-append f (take i ms) (get_or ms i d ∷ []) in
+    let told : IsMemberTold rules s bytes who (child_of p (f (get_or ms i d)) false) more =
+    subst (λ (u : Server). IsMemberTold rules u bytes who (child_of p (f (get_or ms i d)) false) more) same (subst (λ (x : PathText). IsMemberTold rules t bytes who x more) at one) in
+    subst (λ (ns : List (List ℕ)). AreTold rules s bytes who p ns news) (sym names_more)
+    (subst (λ (ts : List ElementTree). AreTold rules s bytes who p (map f (take i ms) ++ f (get_or ms i d) ∷ []) ts) (sym all)
+    (told_more rules s bytes who p (map f (take i ms)) (f (get_or ms i d)) olds more so_far told))

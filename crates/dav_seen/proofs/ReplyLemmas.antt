@@ -32,3 +32,8 @@ three_parts a b c empty first second third =
 pub decides_both : {E : Type 0} (A B : Type 0) (r : Result Bool E) → A → IfOk r (λ b. Decides b B) → IfOk r (λ b. Decides b (A × B))
 decides_both A B (Ok b) a is = (λ yes. (a, is.0 yes), λ both. is.1 both.1)
 decides_both A B (Err e) a is = is
+
+-- what is said of each reply with one property, is said of an answer
+pub ok_each : {A E : Type 0} (P Q : A → Type 0) (r : Result A E) → ((a : A) → P a → Q a) → IfOk r P → IfOk r Q
+ok_each P Q (Ok a) each is = each a is
+ok_each P Q (Err e) each is = is

@@ -14,3 +14,21 @@ returns-then-not-branch c tokens body =
     turned_away a tokens c.args.head.now body c.refused_of.result r.0 (reason_for who) _ r.1 (r.2 ∙ c.reason_for.ensures) r.3
     (without_leave who c.args.bytes.items c.requires.let_in c.requires.few c.requires.inside c.requires.open_to c.requires.kept c.requires.lacks
     (subst (λ (u : Option (List ℕ)). ¬ LooksIn a u c.args.bytes.items) lent (subst (λ (b : List ℕ). ¬ LooksIn a (option_copied c.as_deref.result) b) c.deref.ensures.value lacks)))
+
+pub returns : goal.returns
+returns c tokens body =
+    let a = c.args.self.now in
+    let lent : option_copied c.as_deref.result ≡ option_map string_bytes c.args.principal = search rules in
+    let looks : LooksIn a (option_copied c.as_deref.result) c.deref.result.now = c.in_ok-may_look.ensures.0 c.if-not-branch.false in
+    record {
+      let_in = c.requires.let_in;
+      few = c.requires.few;
+      inside = c.requires.inside;
+      open_to = c.requires.open_to;
+      kept = c.requires.kept;
+      lacks = c.requires.lacks;
+      looks = subst (λ (u : Option (List ℕ)). LooksIn a u c.args.bytes.items) lent (subst (λ (b : List ℕ). LooksIn a (option_copied c.as_deref.result) b) c.deref.ensures.value looks);
+      body_is = refl;
+      moment = refl;
+      token = refl;
+    }
