@@ -33,8 +33,8 @@ module _ (rules : Rules) (s : Server) (head bytes : List ℕ) (who : Caller) whe
     pub unread_way : (r : Reply) → o ≡ None → r ≡ status_reply 404 → IsWayReply rules s head bytes who r
     unread_way r none reply =
         nowhere (λ a reads.
-            let is = reads (with_head head) refl in
-            at_none (IsAsked s.settings (with_head head)) o none (asks s.settings (with_head head) (sym below) refl) is.request a.method a.path is.to) reply
+        let is = reads (with_head head) refl in
+        at_none (IsAsked s.settings (with_head head)) o none (asks s.settings (with_head head) (sym below) refl) is.request a.method a.path is.to) reply
 
     -- a request is
     pub asked_way : {E : Type 0} (a : AskedView) (q : Request) (depth : Option (List ℕ)) (r : Result Reply E) → o ≡ Some a → IsHead head q → depth ≡ depth_in q
@@ -42,6 +42,6 @@ module _ (rules : Rules) (s : Server) (head bytes : List ℕ) (who : Caller) whe
     asked_way a q depth r some is at replies =
         ok_each (IsReplyAt rules s a.method a.path depth bytes who) (IsWayReply rules s head bytes who) r
         (λ reply here.
-            replied q a is (λ x same. at_some (IsUnread s.settings x) (IsAsked s.settings x) o a some (asks s.settings x (sym below) same))
-            (subst (λ (d : Option (List ℕ)). IsReplyAt rules s a.method a.path d bytes who reply) at here))
+        replied q a is (λ x same. at_some (IsUnread s.settings x) (IsAsked s.settings x) o a some (asks s.settings x (sym below) same))
+        (subst (λ (d : Option (List ℕ)). IsReplyAt rules s a.method a.path d bytes who reply) at here))
         replies
