@@ -13,8 +13,6 @@ mod owner;
 mod presented;
 mod response;
 mod sendable;
-#[cfg(test)]
-mod tests;
 mod uploaded;
 
 pub use ending::unlock_head;

@@ -1,7 +1,7 @@
 //! A server that is saved and loaded, as rows. The expected answers are those of RFC 4918 and RFC 9110, and the bytes were
 //! worked out by hand.
 use super::{answer, fits, unescaped};
-use crate::Handler;
+use dav_http::Handler;
 use dav_saved::LoadError;
 use std::alloc::{AllocError, Global};
 use std::process::Abort;

@@ -1,8 +1,8 @@
 //! The room that folders tell, and replies without what is missing.
 use super::halves;
-use crate::minimal::answered_to;
-use crate::quota::{Room, with_quota};
 use dav_core::element::Element;
+use dav_presented::minimal::answered_to;
+use dav_presented::quota::{Room, with_quota};
 use dav_xml::{read, write};
 use std::alloc::{AllocError, Global};
 use std::test::Fail;

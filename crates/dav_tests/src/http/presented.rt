@@ -1,8 +1,8 @@
 //! What a client is shown, as rows: each request, and its status, some of its fields, and its body.
 use super::{parts, unescaped, value_in};
-use crate::{HandleError, Handler, Head, Store, present};
 use bytes::{Buf, Bytes};
 use dav_engine::Caller;
+use dav_http::{HandleError, Handler, Head, Store, present};
 use http_server::Response;
 use std::alloc::{AllocError, Global};
 use std::str;

@@ -1,6 +1,6 @@
 //! The requests by which the times of uploaded files are set.
 use super::unescaped;
-use crate::uploaded::time_request;
+use dav_http::time_request;
 use std::str;
 use std::test::Fail;
 

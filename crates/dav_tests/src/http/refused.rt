@@ -1,8 +1,8 @@
 //! Which requests aren't run, as rows: each request, and its status; `run` where it is.
 use super::{parts, unescaped};
-use crate::{HandleError, Handler, Head};
 use bytes::Bytes;
 use dav_engine::Caller;
+use dav_http::{HandleError, Handler, Head};
 use std::alloc::{AllocError, Global};
 use std::test::Fail;
 

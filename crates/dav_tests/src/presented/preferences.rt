@@ -1,6 +1,6 @@
 //! What a request says of how much it wants to be told.
 use super::{halves, values};
-use crate::preferences::leaves_out_missing;
+use dav_presented::preferences::leaves_out_missing;
 use std::alloc::Global;
 use std::test::Fail;
 

@@ -1,6 +1,6 @@
 //! Types by names, and which of them act.
 use super::halves;
-use crate::types::{acts, type_of};
+use dav_presented::types::{acts, type_of};
 use std::process::Abort;
 use std::test::Fail;
 

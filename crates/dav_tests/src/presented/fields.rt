@@ -1,9 +1,11 @@
 //! What the fields of a request ask, and what is sent by them.
 use super::{halves, values};
-use crate::fields::{Fields, answer_to, conditions_in, date_in, may_be_part, names_tag, range_in};
-use crate::parts::{Sent, Spec};
 use bytes::Bytes;
 use dav_headers::ETag;
+use dav_presented::fields::{
+    Fields, answer_to, conditions_in, date_in, may_be_part, names_tag, range_in,
+};
+use dav_presented::parts::{Sent, Spec};
 use std::alloc::{AllocError, Global};
 use std::process::Abort;
 use std::test::Fail;

@@ -1,6 +1,6 @@
 //! Names of elements.
 use super::{halves, named};
-use crate::names::{is_dav, is_same, space_of};
+use dav_presented::names::{is_dav, is_same, space_of};
 use std::alloc::{AllocError, Global};
 use std::process::Abort;
 use std::test::Fail;

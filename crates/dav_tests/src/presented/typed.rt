@@ -1,7 +1,7 @@
 //! Types and usual names in a multistatus.
 use super::{halves, holding, named, saying};
-use crate::typed::with_types;
 use dav_core::element::Element;
+use dav_presented::typed::with_types;
 use std::alloc::{AllocError, Global};
 use std::process::Abort;
 use std::test::Fail;

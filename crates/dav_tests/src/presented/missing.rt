@@ -1,7 +1,7 @@
 //! What is missing in a multistatus.
 use super::{halves, holding, named, saying};
-use crate::missing::{MOST_NAMES, answered, asks_for_many};
 use dav_core::element::Element;
+use dav_presented::missing::{MOST_NAMES, answered, asks_for_many};
 use std::alloc::{AllocError, Global};
 use std::process::Abort;
 use std::test::Fail;

@@ -6,9 +6,9 @@ mod refused;
 mod saved;
 mod uploaded;
 
-use crate::{HandleError, Handler, Head, is_sendable_if_any, leaves, send, unlock_head};
 use bytes::{Buf, Bytes};
 use dav_engine::Caller;
+use dav_http::{HandleError, Handler, Head, is_sendable_if_any, leaves, send, unlock_head};
 use http_server::Response;
 use std::alloc::{AllocError, Global};
 use std::test::Fail;

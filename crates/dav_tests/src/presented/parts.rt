@@ -3,8 +3,8 @@ ghost use Rattle.std.specs.Prelude.{IfSome};
 ghost use Rattle.dav_presented.specs.Range.{IsSpec};
 
 use super::halves;
-use crate::parts::{Conditions, Part, Spec, Verdict, decide, part_of, presented, shown};
 use bytes::Bytes;
+use dav_presented::parts::{Conditions, Part, Spec, Verdict, decide, part_of, presented, shown};
 use std::alloc::{AllocError, Global};
 use std::process::Abort;
 use std::test::Fail;

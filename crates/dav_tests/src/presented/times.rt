@@ -1,8 +1,8 @@
 //! Times that clients set, in the bodies of requests and in a multistatus.
 use super::{holding, named, saying};
-use crate::times::{find_as, patch_as};
-use crate::typed::{outcomes, with_types};
 use dav_core::element::Element;
+use dav_presented::times::{find_as, patch_as};
+use dav_presented::typed::{outcomes, with_types};
 use std::alloc::{AllocError, Global};
 use std::process::Abort;
 use std::test::Fail;
