@@ -6,3 +6,5 @@
 mod http;
 #[cfg(test)]
 mod presented;
+#[cfg(test)]
+mod xml;

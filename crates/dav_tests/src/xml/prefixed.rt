@@ -1,7 +1,7 @@
 //! Elements under another prefix.
 use super::{MOST, parts, show};
-use crate::{read, with_prefix, write};
 use dav_core::element::Element;
+use dav_xml::{read, with_prefix, write};
 use std::alloc::{AllocError, Global};
 use std::process::Abort;
 use std::test::Fail;

@@ -10,8 +10,8 @@ mod namespaces;
 mod prefixed;
 mod values;
 
-use crate::{Fault, XmlError, read, write};
 use dav_core::element::{Element, XmlNode};
+use dav_xml::{Fault, XmlError, read, write};
 use std::alloc::{AllocError, Global};
 use std::process::Abort;
 use std::test::Fail;

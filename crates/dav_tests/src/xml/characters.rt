@@ -1,6 +1,6 @@
 //! Texts of characters that a document may have.
 use super::parts;
-use crate::is_legal;
+use dav_xml::is_legal;
 use std::alloc::Global;
 use std::process::Abort;
 use std::test::Fail;

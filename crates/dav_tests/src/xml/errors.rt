@@ -1,5 +1,5 @@
 //! What errors print.
-use crate::{Fault, XmlError};
+use dav_xml::{Fault, XmlError};
 use std::test::Fail;
 
 const ROWS: &str = "\
