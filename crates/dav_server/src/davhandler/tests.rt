@@ -86,7 +86,7 @@ pub(super) fn server_below(
 }
 
 // Such a server below no prefix.
-pub(super) fn new_server(alloc: Global) -> Result<DavHandler<MemFs, MemLs>, Fail> {
+fn new_server(alloc: Global) -> Result<DavHandler<MemFs, MemLs>, Fail> {
     Ok(server_below(alloc, "")?)
 }
 
