@@ -14,8 +14,6 @@ mod placed;
 mod presented;
 mod response;
 mod sendable;
-#[cfg(test)]
-mod tests;
 mod uploaded;
 
 pub use ending::unlock_head;

@@ -15,8 +15,6 @@ pub mod parts;
 pub mod preferences;
 pub mod quota;
 mod responses;
-#[cfg(test)]
-mod tests;
 mod texts;
 pub mod times;
 pub mod typed;

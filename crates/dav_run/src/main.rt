@@ -3,8 +3,6 @@
 //! [`play::play`]; one that isn't 0 is also reported on standard error.
 #![tactic(auto)]
 
-#[cfg(test)]
-mod asserting;
 mod play;
 mod print;
 mod request;

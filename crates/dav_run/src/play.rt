@@ -440,28 +440,3 @@ fn write_replies<W: Write>(alloc: Global, replies: &[Reply], writer: &mut W) -> 
     }
     Ok(())
 }
-
-#[cfg(test)]
-mod copying;
-#[cfg(test)]
-mod finding;
-#[cfg(test)]
-mod isolation;
-#[cfg(test)]
-mod locking;
-#[cfg(test)]
-mod members;
-#[cfg(test)]
-mod options;
-#[cfg(test)]
-mod properties;
-#[cfg(test)]
-mod publishing;
-#[cfg(test)]
-mod refused_calls;
-#[cfg(test)]
-mod removing;
-#[cfg(test)]
-mod tests;
-#[cfg(test)]
-mod whole_scripts;

@@ -570,5 +570,3 @@ fn check_members(value: &Value, form: Form) -> Result<(), ScriptError>
 }
 
 mod elements;
-#[cfg(test)]
-mod tests;

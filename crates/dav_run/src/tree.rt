@@ -8,9 +8,6 @@ ghost use Rattle.dav_core.specs.Element.{trees};
 ghost use Rattle.dav_core.specs.ElementView.{attribute_bytes, node_tree};
 ghost use Rattle.dav_run.specs.TreeData.{Adds, attribute_data, children_data, text_or_null, tokens_of, tree_data};
 
-#[cfg(test)]
-mod tests;
-
 use dav_core::element::{Element, XmlNode};
 use json::Writer;
 use std::alloc::AllocError;

@@ -29,8 +29,6 @@ mod engine_calls;
 #[cfg(test)]
 mod engine_words;
 #[cfg(test)]
-mod hostile;
-#[cfg(test)]
 mod property_calls;
 #[cfg(test)]
 mod recorded_calls;

@@ -9,14 +9,6 @@ ghost use Rattle.dav_server.specs.Promises.{Promises};
 ghost use Rattle.dav_server.specs.Server.{AddsReply, AnswersAll, AnswersSome, StopsIn, at_turn, turns};
 
 #[cfg(test)]
-mod bodies;
-#[cfg(test)]
-mod copies;
-#[cfg(test)]
-mod finding;
-#[cfg(test)]
-pub(crate) mod removals;
-#[cfg(test)]
 mod tests;
 
 use crate::davhandler::DavHandler;

@@ -5,8 +5,6 @@
 mod asserting;
 mod entries;
 pub mod laws;
-#[cfg(test)]
-mod listed;
 pub mod memfs;
 pub mod memls;
 mod names;

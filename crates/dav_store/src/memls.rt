@@ -14,7 +14,7 @@ mod index;
 mod kept;
 mod saved;
 #[cfg(test)]
-pub(crate) mod tests;
+mod tests;
 
 use crate::paths;
 use dav_core::davpath::DavPath;

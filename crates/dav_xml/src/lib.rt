@@ -14,8 +14,6 @@ mod nesting;
 mod prefixed;
 mod references;
 mod scope;
-#[cfg(test)]
-mod tests;
 mod token;
 mod writing;
 mod written;

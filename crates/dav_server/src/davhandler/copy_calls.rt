@@ -5,7 +5,7 @@ use super::tests::{lock_for_anna, shown};
 use super::*;
 use crate::refusing::Refusing;
 use crate::rows::{NoRow, Player, play_rows};
-use crate::run::removals::refusals_of;
+use dav_core::errors::FsError;
 use dav_core::fs::OpenOptions;
 use dav_engine::reply::multistatus::MultiError;
 use dav_headers::Depth;
@@ -255,6 +255,29 @@ locks /n -> 0
 LOCK /n | lockinfo exclusive -> 201
 locks /n -> 1
 "##;
+
+// The error of this name.
+fn error_of(name: &'static str) -> Result<FsError, NoRow> {
+    match name {
+        "Forbidden" => Ok(FsError::Forbidden),
+        "Exists" => Ok(FsError::Exists),
+        "NotFound" => Ok(FsError::NotFound),
+        "InsufficientStorage" => Ok(FsError::InsufficientStorage),
+        _ => Err(NoRow(name)),
+    }
+}
+
+// The list that refuses the call of a row.
+fn refusals_of(alloc: Global, row: &'static str) -> Result<Vec<Option<FsError>>, Fail> {
+    let (call, name) = row.split_once(' ').ok_or(NoRow(row))?;
+    let call: usize = call.parse()?;
+    let mut refusals = Vec::new(alloc);
+    for _ in 1..call {
+        refusals.push(None)?;
+    }
+    refusals.push(Some(error_of(name)?))?;
+    Ok(refusals)
+}
 
 // The depth of this text.
 fn depth_of(text: &'static str) -> Result<Depth, NoRow> {

@@ -1,8 +1,7 @@
-//! Replies that were worked out by hand from RFC 9110 and RFC 4918.
+//! How servers are made, and replies that were worked out by hand from RFC 4918.
 use super::*;
 use crate::asserting::same;
 use crate::rows::{NoRow, Player, play_rows, unescaped};
-use bytes::Bytes;
 use dav_core::element::Element;
 use dav_core::errors::FsResult;
 use dav_engine::ReplyBody;
@@ -11,86 +10,13 @@ use dav_store::memls::MemLs;
 use http_header::{HeaderName, HeaderValue};
 use std::test::Fail;
 
-// A request one second after 1970 began, and its reply. After ` | ` comes a body, as `bytes x`, `tree 64` (that many nested
-// elements), `allprop 64` (such a tree that asks for all properties) or `malformed`, or who makes the request, as `by anna`.
-const REQUESTS: &str = r##"# a file is stored and read
-PUT /a HTTP/1.1\r\nContent-Length: 3\r\n\r\n | bytes one -> 201\naccept-ranges: bytes\ncontent-length: 0\netag: "2"\nlast-modified: Thu, 01 Jan 1970 00:00:01 GMT\n
-GET /a HTTP/1.1\r\n\r\n -> 200\ncontent-length: 3\ncontent-type: application/octet-stream\netag: "2"\nlast-modified: Thu, 01 Jan 1970 00:00:01 GMT\n\none
-# bodies that a method doesn't take; the target is read before the body
-PUT /f HTTP/1.1\r\n\r\n | tree 1 -> 415\ncontent-length: 0\n
-PUT /f HTTP/1.1\r\n\r\n | malformed -> 415\ncontent-length: 0\n
-DELETE /x HTTP/1.1\r\n\r\n | bytes x -> 415\ncontent-length: 0\n
-DELETE /%2e%2e HTTP/1.1\r\n\r\n | bytes x -> 403\ncontent-length: 0\n
-# trees, which PROPFIND takes up to 64 elements deep; bytes aren't one, and without a body all is asked for
+// A request one second after 1970 began, and its reply. After ` | ` comes its body: `tree 64` (that many nested elements) or
+// `allprop 64` (such a tree that asks for all properties). A script of dav_run has no room for trees as deep.
+const TREES: &str = r##"# PROPFIND takes trees up to 64 elements deep
 PROPFIND / HTTP/1.1\r\nDepth: 0\r\n\r\n | allprop 64 -> 207\ncache-control: no-cache\npragma: no-cache\ncontent-type: application/xml; charset=utf-8\n\n /\n
 PROPFIND / HTTP/1.1\r\nDepth: 0\r\n\r\n | allprop 65 -> 400\ncontent-length: 0\n
 PROPFIND / HTTP/1.1\r\nDepth: infinity\r\n\r\n | allprop 65 -> 400\ncontent-length: 0\n
 PROPFIND / HTTP/1.1\r\nDepth: 0\r\n\r\n | tree 64 -> 400\ncontent-length: 0\n
-PROPFIND / HTTP/1.1\r\nDepth: 0\r\n\r\n | bytes x -> 400\ncontent-length: 0\n
-PROPFIND / HTTP/1.1\r\n\r\n -> 207\ncache-control: no-cache\npragma: no-cache\ncontent-type: application/xml; charset=utf-8\n\n
-PROPFIND / HTTP/1.1\r\nDepth: infinity\r\n\r\n -> 501\ncache-control: no-cache\npragma: no-cache\ncontent-type: application/xml; charset=utf-8\n\n\n
-# what anna holds: nobody passes without the token, and with it nobody but her
-MKCOL /d HTTP/1.1\r\n\r\n -> 201\n
-anna locks /d -> granted
-PUT /d/a HTTP/1.1\r\nContent-Length: 1\r\n\r\n | bytes x | by ben -> 423\nconnection: close\ncontent-length: 0\n
-PUT /d/a HTTP/1.1\r\nContent-Length: 1\r\n\r\n | bytes x | by anna -> 423\nconnection: close\ncontent-length: 0\n
-PUT /d/a HTTP/1.1\r\nContent-Length: 1\r\nIf: (<urn:t:1>)\r\n\r\n | bytes x | by ben -> 423\nconnection: close\ncontent-length: 0\n
-# nobody else makes a folder in hers
-MKCOL /d HTTP/1.1\r\n\r\n -> 201\n
-anna locks /d -> granted
-MKCOL /d/x HTTP/1.1\r\n\r\n | by ben -> 423\ncontent-length: 0\n
-# the holder passes with the token; the folder took the number 1, and the file 2 and 3
-MKCOL /d HTTP/1.1\r\n\r\n -> 201\n
-anna locks /d -> granted
-PUT /d/a HTTP/1.1\r\nContent-Length: 1\r\nIf: (<urn:t:1>)\r\n\r\n | bytes x | by anna -> 201\naccept-ranges: bytes\ncontent-length: 0\netag: "3"\nlast-modified: Thu, 01 Jan 1970 00:00:01 GMT\n
-# a locked member keeps its folder, also where the folder's name is escaped; anna's DELETE without the token too
-MKCOL /d HTTP/1.1\r\n\r\n -> 201\n
-MKCOL /d/a HTTP/1.1\r\n\r\n -> 201\n
-anna locks /d/a -> granted
-DELETE /d HTTP/1.1\r\n\r\n | by ben -> 423\ncontent-length: 0\n
-DELETE /%64 HTTP/1.1\r\n\r\n | by ben -> 423\ncontent-length: 0\n
-DELETE /d/a HTTP/1.1\r\n\r\n | by anna -> 423\ncontent-length: 0\n
-DELETE /d HTTP/1.1\r\nIf: <http://h/d/a> (<urn:t:1>)\r\n\r\n | by ben -> 423\ncontent-length: 0\n
-GET /d/a HTTP/1.1\r\n\r\n -> 405\ncontent-length: 0\n
-# a lock below a folder ends with it, and so does one at its path
-MKCOL /d HTTP/1.1\r\n\r\n -> 201\n
-MKCOL /d/a HTTP/1.1\r\n\r\n -> 201\n
-anna locks /d/a -> granted
-DELETE /d HTTP/1.1\r\nIf: <http://h/d/a> (<urn:t:1>)\r\n\r\n | by anna -> 204\n
-MKCOL /d HTTP/1.1\r\n\r\n | by ben -> 201\n
-MKCOL /d/a HTTP/1.1\r\n\r\n | by ben -> 201\n
-anna locks /d -> granted
-DELETE /d HTTP/1.1\r\nIf: (<urn:t:1>)\r\n\r\n | by anna -> 204\n
-MKCOL /d HTTP/1.1\r\n\r\n | by ben -> 201\n
-# a member of a locked folder goes, and the lock stands
-MKCOL /d HTTP/1.1\r\n\r\n -> 201\n
-anna locks /d -> granted
-MKCOL /d/a HTTP/1.1\r\nIf: (<urn:t:1>)\r\n\r\n | by anna -> 201\n
-DELETE /d/a HTTP/1.1\r\nIf: (<urn:t:1>)\r\n\r\n | by anna -> 204\n
-MKCOL /d/a HTTP/1.1\r\n\r\n | by ben -> 423\ncontent-length: 0\n
-# DELETE of the root, by the holder of its lock: what is in it goes, it stays itself, and so does the lock
-MKCOL /d HTTP/1.1\r\n\r\n -> 201\n
-anna locks / -> granted
-DELETE / HTTP/1.1\r\nIf: (<urn:t:1>)\r\n\r\n | by anna -> 403\n
-GET /d HTTP/1.1\r\n\r\n -> 404\ncontent-length: 0\n
-MKCOL /d HTTP/1.1\r\n\r\n | by ben -> 423\ncontent-length: 0\n
-# UNLOCK ends the lock of its token, whoever knows it, also from below the folder; then it is gone
-MKCOL /d HTTP/1.1\r\n\r\n -> 201\n
-anna locks /d -> granted
-UNLOCK /d HTTP/1.1\r\n\r\n | by anna -> 400\ncontent-length: 0\n
-UNLOCK /d HTTP/1.1\r\nLock-Token: <urn:t:2>\r\n\r\n | by anna -> 409\ncontent-length: 0\n
-UNLOCK / HTTP/1.1\r\nLock-Token: <urn:t:1>\r\n\r\n | by anna -> 409\ncontent-length: 0\n
-MKCOL /d/x HTTP/1.1\r\n\r\n | by ben -> 423\ncontent-length: 0\n
-UNLOCK /d/a HTTP/1.1\r\nLock-Token: <urn:t:1>\r\n\r\n | by ben -> 204\n
-MKCOL /d/x HTTP/1.1\r\n\r\n | by ben -> 201\n
-UNLOCK /d/a HTTP/1.1\r\nLock-Token: <urn:t:1>\r\n\r\n | by ben -> 409\ncontent-length: 0\n
-# at a folder without its slash it tells the folder's location; the body isn't taken
-MKCOL /d HTTP/1.1\r\n\r\n -> 201\n
-anna locks /d -> granted
-UNLOCK /d HTTP/1.1\r\nLock-Token: <urn:t:1>\r\n\r\n | bytes x -> 415\ncontent-length: 0\n
-UNLOCK /d HTTP/1.1\r\nLock-Token: <urn:t:1>\r\n\r\n -> 204\ncontent-location: /d/\n
-# the target `*` is for OPTIONS alone
-DELETE * HTTP/1.1\r\n\r\n -> 400\ncontent-length: 0\n
 "##;
 
 // Adds a header on a line.
@@ -160,7 +86,7 @@ pub(super) fn server_below(
 }
 
 // Such a server below no prefix.
-pub(super) fn new_server(alloc: Global) -> Result<DavHandler<MemFs, MemLs>, Fail> {
+fn new_server(alloc: Global) -> Result<DavHandler<MemFs, MemLs>, Fail> {
     Ok(server_below(alloc, "")?)
 }
 
@@ -212,13 +138,13 @@ fn asking_for_all(alloc: Global, depth: usize) -> Result<Element, NoMemory> {
     Ok(tree)
 }
 
-// A body by its kind.
-fn body_of(alloc: Global, kind: &'static str, text: &'static str) -> Result<Body, Fail> {
+// A tree by its kind.
+fn tree_of(alloc: Global, text: &'static str) -> Result<Element, Fail> {
+    let (kind, depth) = text.split_once(' ').ok_or(NoRow(text))?;
+    let depth = depth.parse()?;
     match kind {
-        "bytes" => Ok(Body::Bytes(Bytes::from_static(text.as_bytes()))),
-        "allprop" => Ok(Body::Tree(asking_for_all(alloc, text.parse()?)?)),
-        "tree" => Ok(Body::Tree(nested(alloc, text.parse()?)?)),
-        _ => Err(NoRow(kind))?,
+        "allprop" => Ok(asking_for_all(alloc, depth)?),
+        _ => Ok(nested(alloc, depth)?),
     }
 }
 
@@ -228,47 +154,25 @@ struct Requests<F: DavFileSystem + Drop, L: DavLockSystem + Drop> {
     server: DavHandler<F, L>,
 }
 
-impl<F: DavFileSystem + Drop, L: DavLockSystem + Drop> Requests<F, L> {
-    // The reply to a request, in one text.
-    fn reply(&mut self, alloc: Global, request: &'static str) -> Result<String, Fail> {
-        let mut parts = request.split(" | ");
-        let head = unescaped(alloc, parts.next().unwrap_or(""))?;
-        let mut body = Body::None;
-        let mut principal = None;
-        for part in parts {
-            match part.split_once(' ') {
-                Some(("by", name)) => principal = Some(name),
-                Some((kind, text)) => body = body_of(alloc, kind, text)?,
-                None if part == "malformed" => body = Body::Malformed,
-                None => return Err(NoRow(part))?,
-            }
-        }
-        let exchange = Exchange::new(&head, body, principal, 1, None)?;
-        shown(alloc, &self.server.handle(alloc, &exchange)?)
-    }
-}
-
-impl Player for Requests<MemFs, MemLs> {
-    fn begin(&mut self, alloc: Global) -> Result<(), Fail> {
-        self.server = new_server(alloc)?;
+impl<F: DavFileSystem + Drop, L: DavLockSystem + Drop> Player for Requests<F, L> {
+    fn begin(&mut self, _alloc: Global) -> Result<(), Fail> {
         Ok(())
     }
 
     fn answer(&mut self, alloc: Global, question: &'static str) -> Result<Vec<u8>, Fail> {
-        match question.strip_prefix("anna locks ") {
-            Some(path) => {
-                let backend = &mut self.server.backend;
-                lock_for_anna(alloc, &mut backend.ls, path)
-            }
-            None => Ok(self.reply(alloc, question)?.into_bytes()),
-        }
+        let (head, tree) = question.split_once(" | ").ok_or(NoRow(question))?;
+        let head = unescaped(alloc, head)?;
+        let body = Body::Tree(tree_of(alloc, tree)?);
+        let exchange = Exchange::new(&head, body, None, 1, None)?;
+        let reply = self.server.handle(alloc, &exchange)?;
+        Ok(shown(alloc, &reply)?.into_bytes())
     }
 }
 
 #[test]
-fn answers_requests(rt: HostRuntime) -> Result<(), Fail> {
+fn answers_requests_with_deep_trees(rt: HostRuntime) -> Result<(), Fail> {
     let server = new_server(rt.alloc())?;
-    play_rows(&rt, &mut Requests { server }, REQUESTS)
+    play_rows(&rt, &mut Requests { server }, TREES)
 }
 
 const PREFIXES: &str = r##"# prefixes
@@ -322,8 +226,8 @@ fn has_folder<F: DavFileSystem>(fs: &mut F, path: &DavPath) -> bool {
     fs.metadata(path).is_ok_and(|found| found.is_dir())
 }
 
-/// How many locks of a server cover a path.
-pub(crate) fn count_locks<F: DavFileSystem, L: DavLockSystem>(
+// How many locks of a server cover a path.
+fn count_locks<F: DavFileSystem, L: DavLockSystem>(
     alloc: Global,
     server: &DavHandler<F, L>,
     path: &DavPath,

@@ -11,11 +11,8 @@ use dav_core::method::DavMethodSet;
 use dav_engine::Body;
 use std::test::Fail;
 
-/// A request one second after 1970 began. An empty body is none.
-pub(super) fn exchange(
-    head: &'static [u8],
-    body: &'static [u8],
-) -> Result<Exchange<'static>, BadMoment> {
+// A request one second after 1970 began. An empty body is none.
+fn exchange(head: &'static [u8], body: &'static [u8]) -> Result<Exchange<'static>, BadMoment> {
     let body = if body.is_empty() {
         Body::None
     } else {
@@ -24,8 +21,8 @@ pub(super) fn exchange(
     Exchange::new(head, body, None, 1, None)
 }
 
-/// A server with locks, of a new store that refuses calls by a list: it is empty, so the headline holds of its runs.
-pub(super) fn refusing_server(alloc: Global) -> Result<DavHandler<Refusing<MemFs>, MemLs>, Fail>
+// A server with locks, of a new store that refuses calls by a list: it is empty, so the headline holds of its runs.
+fn refusing_server(alloc: Global) -> Result<DavHandler<Refusing<MemFs>, MemLs>, Fail>
     ensures { IfOk result (λ handler. handler.server ≡ empty_server handler.server.settings) }
 {
     let fs = Refusing::new(MemFs::new(alloc)?);
@@ -33,8 +30,8 @@ pub(super) fn refusing_server(alloc: Global) -> Result<DavHandler<Refusing<MemFs
     Ok(DavHandler::new(alloc, "", DavMethodSet::all(), fs, Some(ls))?)
 }
 
-/// The replies of such a server to a run.
-pub(super) fn replies_to(alloc: Global, steps: Vec<Step<'_>>) -> Result<Vec<Reply>, Fail> {
+// The replies of such a server to a run.
+fn replies_to(alloc: Global, steps: Vec<Step<'_>>) -> Result<Vec<Reply>, Fail> {
     let mut server = refusing_server(alloc)?;
     match run_refused(&mut server, alloc, steps) {
         Ok(replies) => Ok(replies),

@@ -1,0 +1,10 @@
+//! Tests of crates by their public calls. They stand apart from these crates, which are so proved once: a crate with tests is
+//! proved a second time with them.
+#![tactic(auto)]
+
+#[cfg(test)]
+mod http;
+#[cfg(test)]
+mod presented;
+#[cfg(test)]
+mod xml;
