@@ -17,8 +17,6 @@ mod name;
 mod principal;
 mod rules;
 mod secret;
-#[cfg(test)]
-mod tests;
 mod text;
 mod users;
 

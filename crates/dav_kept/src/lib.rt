@@ -10,8 +10,6 @@ mod kept;
 pub mod laws;
 mod over_journal;
 mod record;
-#[cfg(test)]
-mod tests;
 
 pub use error::{HandleError, KeptError};
 pub use former::adopt;

@@ -3,7 +3,11 @@
 #![tactic(auto)]
 
 #[cfg(test)]
+mod access;
+#[cfg(test)]
 mod http;
+#[cfg(test)]
+mod kept;
 #[cfg(test)]
 mod presented;
 #[cfg(test)]

@@ -1,6 +1,6 @@
 //! Lists of users, and who is let in by them.
 use super::{marked, parts};
-use crate::{Refusal, Users, principal_of};
+use dav_access::{Refusal, Users, principal_of};
 use std::alloc::{AllocError, Global};
 use std::test::Fail;
 

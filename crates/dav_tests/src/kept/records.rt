@@ -1,6 +1,6 @@
 //! Records as bytes.
-use crate::record::{Record, Request};
 use bytes::Bytes;
+use dav_kept::{Record, Request};
 use std::alloc::Global;
 use std::test::Fail;
 

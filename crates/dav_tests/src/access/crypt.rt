@@ -1,6 +1,6 @@
 //! Passwords and secrets.
 use super::parts;
-use crate::matches_secret;
+use dav_access::matches_secret;
 use std::test::Fail;
 
 // A secret and a password, and whether they belong together: by the specification of SHA-crypt, and

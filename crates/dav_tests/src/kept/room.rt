@@ -1,10 +1,8 @@
 //! Where the disk has no room.
 ghost use Rattle.std.specs.Prelude.{⊤};
 
-use crate::error::KeptError;
-use crate::journal::Keeps;
-use crate::kept::Kept;
-use crate::tests::{Heads, ask};
+use crate::kept::{Heads, ask};
+use dav_kept::{Keeps, Kept, KeptError};
 use http::StatusCode;
 use std::alloc::Global;
 use std::test::Fail;

@@ -1,14 +1,9 @@
 //! Lives of a server over a disk in memory.
 ghost use Rattle.std.specs.Prelude.{◌≡◌, ⊤, ℕ, List};
 
-use crate::error::{HandleError, KeptError};
-use crate::former::adopt;
-use crate::handler::{Effect, Handles};
-use crate::journal::Keeps;
-use crate::kept::{Kept, is_due};
-use crate::record::Request;
 use bytes::Bytes;
 use dav_journal::Pair;
+use dav_kept::{Effect, HandleError, Handles, Keeps, Kept, KeptError, Request, adopt, is_due};
 use http::StatusCode;
 use http_server::Response;
 use sqlite_disk::{Disk, Memory};

@@ -1,6 +1,6 @@
 //! Values of the field Authorization.
 use super::{marked, parts};
-use crate::credentials_of;
+use dav_access::credentials_of;
 use std::alloc::{AllocError, Global};
 use std::test::Fail;
 

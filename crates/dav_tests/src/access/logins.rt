@@ -1,6 +1,6 @@
 //! Wrong logins, and who waits after them.
 use super::parts;
-use crate::Logins;
+use dav_access::Logins;
 use std::alloc::{AllocError, Global};
 use std::test::Fail;
 

@@ -1,6 +1,6 @@
 //! The text of the rules, and who may do what by it.
 use super::{marked, parts};
-use crate::{Right, Rules, Users, file};
+use dav_access::{Right, Rules, Users, file};
 use dav_core::davpath::DavPath;
 use std::alloc::{AllocError, Global};
 use std::test::Fail;
