@@ -13,6 +13,7 @@ ghost use Rattle.std.specs.Prelude.{◌≡◌};
 ghost use Rattle.dav_serve.specs.Status.{status_after};
 
 mod begun;
+mod found;
 mod options;
 mod refusal;
 mod rest;
@@ -21,6 +22,7 @@ mod watcher;
 
 use begun::{note_begun, see_begun};
 use dav_live::{Fault, Lists, ListsError, Live};
+use found::text_in;
 use options::Options;
 use refusal::{Refusal, refused, status_of};
 use rest::keep_rest;
@@ -46,15 +48,8 @@ fn status_after(fault: Fault) -> u8
 
 // The text of a file, where it is there.
 fn text_of(rt: &HostRuntime, path: String) -> Result<Option<Vec<u8>>, Refusal> {
-    let text = match fs::exists(rt, path.as_str()) {
-        Ok(false) => return Ok(None),
-        Ok(true) => fs::read(rt, path.as_str()),
-        Err(error) => Err(error),
-    };
-    match text {
-        Ok(text) => Ok(Some(text)),
-        Err(_) => Err(Refusal::Unread(path)),
-    }
+    let read = fs::read(rt, path.as_str());
+    text_in(path, read)
 }
 
 // The users and the rules of access of a folder, where it has files of them, and whether it has rules: where it had some, and has none, it is
