@@ -13,11 +13,11 @@ import sys
 import tempfile
 import threading
 
-# By name: what is changed in answers, and the bytes of requests that end the program.
+# By name: what is changed in answers, which keep their lengths, and the bytes of requests that end the program.
 FAULTS = {
     "bad requests are answered as fine": ((rb"HTTP/1.1 400", b"HTTP/1.1 200"), None),
     "locks keep nobody out": ((rb"HTTP/1.1 423", b"HTTP/1.1 204"), None),
-    "owners aren't told": ((rb"(?s)<D:owner.*?</D:owner>", b""), None),
+    "owners aren't told": ((rb"(?s)<D:owner.*?</D:owner>", lambda found: b" " * len(found[0])), None),
     "a deletion is 200": ((rb"HTTP/1.1 204", b"HTTP/1.1 200"), None),
     "odd bytes end it": (None, b"\xff"),
     "it keeps nothing": (None, None),
