@@ -22,7 +22,7 @@ def free_port():
 
 def program():
     """The program that ./serve runs, built where it isn't there."""
-    done = subprocess.run([f"{TOP}/tools/program", "dav_serve"], stdout=subprocess.PIPE, text=True, check=True)
+    done = subprocess.run([f"{TOP}/tools/build/program", "dav_serve"], stdout=subprocess.PIPE, text=True, check=True)
     return done.stdout.strip()
 
 

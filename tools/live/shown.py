@@ -1,6 +1,6 @@
 """What a live server runs of a request, what it refuses to run, and what it shows of the machine's reply, a second time.
 
-usage: no program; `kept(head)`, `refusal(request, server)` and `shown(request, reply, moment, server)` go around a server of tools/oracle.py
+usage: no program; `kept(head)`, `refusal(request, server)` and `shown(request, reply, moment, server)` go around a server of tools/oracle/oracle.py
 
 Nothing here is taken from the program: it is written from docs/SERVE.md ("Parts, dates, types, and what isn't there"), RFC 9110 (sections 8.3,
 13 and 14), RFC 4918 (9.1, 10.4 and 14), RFC 4331, RFC 7240 and RFC 8144 (2.1). Each rule stands in plain words where it is applied.
@@ -12,7 +12,8 @@ import urllib.parse
 
 from serving import TOP
 
-sys.path.insert(0, f"{TOP}/tools")
+sys.path.append(f"{TOP}/tools")
+import loading  # noqa: E402, F401
 import oracle  # noqa: E402
 
 OCTETS = "application/octet-stream"
