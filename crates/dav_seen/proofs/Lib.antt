@@ -1,3 +1,4 @@
+mod ListingLemmas
 mod LoopLemmas
 mod MemberLemmas
 mod ReplyLemmas
