@@ -32,11 +32,11 @@ returns-then-is_closed_to c =
     turned_away c.args.self.now c.args.tokens c.args.head.now c.args.body.now c.refused_of-then-is_closed_to.result r.0 ReadOnly _ r.1 r.2 r.3
     (closed (option_map string_bytes c.args.principal) c.requires.let_in few (subst (λ p. ¬ IsOutside p c.args.head.now) prefix inside) is)
 
-pub returns-then-branch-begins_past : goal.returns-then-branch-begins_past
-returns-then-branch-begins_past c =
+pub returns-then-branch-2 : goal.returns-then-branch-2
+returns-then-branch-2 c =
     let a = c.args.self.now in
     let who = option_map string_bytes c.args.principal in
-    let r = c.refused_of-then-branch-begins_past.ensures in
+    let r = c.refused_of-then-branch-2.ensures in
     let few : ¬ HasManySlashes c.args.head.now = search rules in
     let prefix : c.as_str.result.now ≡ a.prefix = c.as_str.ensures.value ∙ ap (λ (v : AdmissionView). v.prefix) c.self.view_is in
     let inside : ¬ IsOutside c.as_str.result.now c.args.head.now = λ is. true≢false (sym (c.in_ok-is_outside.ensures.1 is) ∙ c.if-branch.false) in
@@ -44,9 +44,14 @@ returns-then-branch-begins_past c =
     let lent : option_copied c.as_deref.result ≡ who = search rules in
     let has : HasLeaveIn a (option_copied c.as_deref.result) c.deref.result.now = search rules in
     let past : BeginsPast a.most_body c.args.head.now = search rules in
-    turned_away a c.args.tokens c.args.head.now c.args.body.now c.refused_of-then-branch-begins_past.result r.0 TooFar _ r.1 r.2 r.3
+    turned_away a c.args.tokens c.args.head.now c.args.body.now c.refused_of-then-branch-2.result r.0 TooFar _ r.1 r.2 r.3
     (too_far who c.in_ok-kept.kept.items c.requires.let_in few (subst (λ p. ¬ IsOutside p c.args.head.now) prefix inside) free c.in_ok-kept.ensures
     (subst (λ (u : Option (List ℕ)). HasLeaveIn a u c.in_ok-kept.kept.items) lent (subst (λ (b : List ℕ). HasLeaveIn a (option_copied c.as_deref.result) b) c.deref.ensures.value has)) past)
+
+pub admitted-requires-clause-within : goal.admitted-requires-clause-within
+admitted-requires-clause-within c =
+    λ past.
+        true≢false (sym (c.in_ok-begins_past.ensures.1 (subst (λ (n : ℕ). BeginsPast n c.args.head.now) (sym (ap (λ (v : AdmissionView). v.most_body) c.self.view_is)) past)) ∙ c.if-branch-2.false)
 
 pub returns-then-not-branch : goal.returns-then-not-branch
 returns-then-not-branch c = c.look_of.ensures c.args.tokens c.args.body.now
