@@ -51,7 +51,7 @@ returns-then-branch-2 c =
 pub admitted-requires-clause-within : goal.admitted-requires-clause-within
 admitted-requires-clause-within c =
     λ past.
-        true≢false (sym (c.in_ok-begins_past.ensures.1 (subst (λ (n : ℕ). BeginsPast n c.args.head.now) (sym (ap (λ (v : AdmissionView). v.most_body) c.self.view_is)) past)) ∙ c.if-branch-2.false)
+    true≢false (sym (c.in_ok-begins_past.ensures.1 (subst (λ (n : ℕ). BeginsPast n c.args.head.now) (sym (ap (λ (v : AdmissionView). v.most_body) c.self.view_is)) past)) ∙ c.if-branch-2.false)
 
 pub returns-then-not-branch : goal.returns-then-not-branch
 returns-then-not-branch c = c.look_of.ensures c.args.tokens c.args.body.now
