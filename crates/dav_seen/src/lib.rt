@@ -7,8 +7,6 @@ pub mod laws;
 mod names;
 mod reading;
 mod reply;
-#[cfg(test)]
-mod tests;
 mod told;
 mod ways;
 

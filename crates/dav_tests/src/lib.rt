@@ -11,4 +11,6 @@ mod kept;
 #[cfg(test)]
 mod presented;
 #[cfg(test)]
+mod seen;
+#[cfg(test)]
 mod xml;

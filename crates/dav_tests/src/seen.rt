@@ -1,12 +1,11 @@
-//! Which names are seen, and what a folder on the way is told with, as rows of text. In a row `^` is CRLF.
-use crate::names::names_seen;
-use crate::way_reply;
+//! What is told of folders on the way to what may be read, as rows of text. In a row `^` is CRLF.
 use bytes::Bytes;
 use dav_access::{Rules, Users, file};
 use dav_core::davpath::DavPath;
 use dav_core::element::{Element, XmlNode};
 use dav_engine::{Caller, Reply, ReplyBody};
 use dav_http::Handler;
+use dav_seen::way_reply;
 use std::alloc::Global;
 use std::test::Fail;
 
@@ -22,18 +21,6 @@ read   /far/off    anna
 read   /far/away   anna
 read   /far/a.txt  ben
 write  /gone       anna
-";
-
-// Who, or `-` for nobody, and a path; the names of its members that are seen.
-const NAMES: &str = "\
-anna / -> public anna far gone
-ben / -> public far
-- / -> public
-anna /far -> off away
-ben /far/ -> a.txt
-- /far ->
-anna /anna ->
-anna /far/off ->
 ";
 
 // Requests by which the server is filled.
@@ -77,31 +64,13 @@ anna REPORT / HTTP/1.1^^ -> 404
 
 // The rules of the rows.
 fn rules_of(alloc: Global) -> Result<Rules, Fail> {
-    let users = Users::parse(alloc, USERS.as_bytes())?;
-    Ok(file::read(alloc, Some(&users), RULES.as_bytes())?)
+    let users = Users::read(alloc, USERS)?;
+    Ok(file::read(alloc, RULES.as_bytes(), Some(&users))?)
 }
 
 // A word, or none where it is `-`.
 fn word_of(word: &str) -> Option<&str> {
     if word == "-" { None } else { Some(word) }
-}
-
-#[test]
-fn names_are_seen(rt: HostRuntime) -> Result<(), Fail> {
-    let alloc = rt.alloc();
-    let rules = rules_of(alloc)?;
-    for row in NAMES.lines() {
-        let (input, wanted) = row.split_once(" ->").ok_or("a row without names")?;
-        let (who, path) = input.split_once(" ").ok_or("a row without a path")?;
-        let path = DavPath::new(alloc, path)?;
-        let mut found = String::new(alloc);
-        for name in names_seen(alloc, &rules, word_of(who), &path)? {
-            found.push(' ')?;
-            found.push_str(str::from_utf8(name)?)?;
-        }
-        assert!(&rt; found.as_str() == wanted, "{row}\ngives:{found}");
-    }
-    Ok(())
 }
 
 // Who makes a request of the rows.
