@@ -104,9 +104,9 @@ ran_or_not {S} answers refuses looks a b old new noted asked r admitted own is r
 pub way_shown : {S : Type 0} (answers : S → RequestView → Response → S → Type 0) (refuses : Option Rules → S → Request → RequestView → ℕ → Type 0) (looks : Rules → S → RequestView → Response → Type 0) (a b : AdmissionView) (old new noted : Holding S)
     (asked : Asked) (r : Request) (admitted : Admitted) (own : Response) → IsHead asked.head r → IsLookOf a r asked.body (request_in a admitted asked.body) → b ≡ a → noted ≡ new
     → (rules : Rules) × (b.rules ≡ Some rules) × looks rules old.state (request_in b admitted asked.body) own → new ≡ old → IsResponseTo answers refuses looks a old asked own noted
-way_shown answers refuses looks a b old new noted asked r admitted own is look same noted-is (rules, some, told) left =
+way_shown answers refuses looks a b old new noted asked r admitted own is look same noted-is (rules, some, tells) left =
     shown_way r (request_in a admitted asked.body) rules is look (subst (λ (x : AdmissionView). x.rules ≡ Some rules) same some)
-    (subst (λ (x : AdmissionView). looks rules old.state (request_in x admitted asked.body) own) same told) (noted-is ∙ left)
+    (subst (λ (x : AdmissionView). looks rules old.state (request_in x admitted asked.body) own) same tells) (noted-is ∙ left)
 
 pub not_refused : {S E : Type 0} (answers : S → RequestView → Response → S → Type 0) (refuses : Option Rules → S → Request → RequestView → ℕ → Type 0) (P : Type 0) (lent : Option Rules) (a : AdmissionView)
     (state : S) (old new : Holding S) (came : Request) (q r : RequestView) (own : Response) (status : Option ℕ) (result : Result (Unit {0}) E) → lent ≡ a.rules → state ≡ old.state → q ≡ r → status ≡ None

@@ -1,4 +1,5 @@
 use Rattle.std.proofs.Common.{◌≡◌, Option, Some, None, ap, sym, subst, ◌∙◌}
+use Rattle.std.specs.Option.{option_copied}
 use Rattle.dav_access.specs.Rules.{Rules}
 use Rattle.dav_kept.specs.Records.{RequestView}
 use Rattle.dav_live.specs.Admission.{request_in}
