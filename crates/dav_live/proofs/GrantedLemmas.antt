@@ -149,7 +149,7 @@ module _ (covered : Path → Bool) where
     responds_leads old new own off (no_head nothing status same) good = leads_same old.state new.state (ap (λ (h : Holding Server). h.state) same) good
     responds_leads old new own off (turned_away r reason user is away status same) good = leads_same old.state new.state (ap (λ (h : Holding Server). h.state) same) good
     responds_leads old new own off (not_run r q status is request refuses answer same) good = leads_same old.state new.state (ap (λ (h : Holding Server). h.state) same) good
-    responds_leads old new own off (shown_way r q rules is look some told same) good = leads_same old.state new.state (ap (λ (h : Holding Server). h.state) same) good
+    responds_leads old new own off (shown_way r q rules is look some tells same) good = leads_same old.state new.state (ap (λ (h : Holding Server). h.state) same) good
     responds_leads old new own off (run r q is request may whole) good = whole_leads old new r q own old.tokens off is request whole good
 
     replies_leads : (l after : LoginsView) (old new : Holding Server) (own : Response) → AllOff a old.state.settings asked → IsReplyTo IsAnswer IsNotRun IsLook a l old asked own new after → IsGood old.state
