@@ -5,11 +5,11 @@
 #[cfg(test)]
 mod access;
 #[cfg(test)]
-mod http;
-#[cfg(test)]
 mod kept;
 #[cfg(test)]
 mod presented;
+#[cfg(test)]
+mod requests;
 #[cfg(test)]
 mod seen;
 #[cfg(test)]

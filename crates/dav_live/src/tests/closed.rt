@@ -68,7 +68,7 @@ fn admission(alloc: Global, users: Option<&[u8]>, read_only: bool) -> Result<Adm
 fn status(admission: &mut Admission, head: &Head<'_>) -> Result<u16, Fail> {
     match admission.decide(head, &Bytes::from_static(b""), 0) {
         Ok(Decision::Refused(refused)) => Ok(refused.reason.status().as_u16()),
-        Ok(Decision::Run(_)) => Ok(200),
+        Ok(Decision::Look(_) | Decision::Run(_)) => Ok(200),
         Err(_) => Err("memory".into()),
     }
 }
