@@ -8,11 +8,18 @@ use std::time::{Duration, Instant};
 /// A connection with nothing to send keeps so much room at most.
 const KEPT: usize = 4096;
 
+/// The core is asked for the next bytes once no more than so many are left to be sent.
+const AHEAD: usize = PIECE;
+
 /// The time that a client has for the head of a request.
 const HEAD_TIME: Duration = Duration::from_secs(10);
 
 /// The time in which a client may read what was sent last, though it may still be sending.
 const LINGER: Duration = Duration::from_secs(2);
+
+/// A reply that took the core so long, and has so many bytes, is a long one.
+const LONG: Duration = Duration::from_millis(2);
+const MANY: usize = PIECE;
 
 /// What the core may order to be done after the bytes were written: to say that they were; to read, where nothing of a request came, a
 /// part of a head, or a head whose body isn't whole; or to close.
@@ -81,6 +88,8 @@ pub enum Outcome {
     Waits,
     /// It would read, once the core has taken more reports.
     Held,
+    /// It would read, once the others had their time.
+    Later,
     /// The bytes of an order were sent, which is to be reported.
     Sent,
     /// So many bytes came, into the room of a report.
@@ -100,7 +109,14 @@ pub struct Connection {
     bytes: Vec<u8>,
     sent: usize,
     taken: usize,
+    /// Whether the core was told that the bytes of the order that comes are sent, though they aren't yet.
+    is_told: bool,
     coming: Coming,
+    /// The reply to the request that came last: how many bytes it has, and how long the core was at it.
+    replied: usize,
+    took: Duration,
+    /// How many reports asked the core for an order when this connection did.
+    asked: u64,
     /// Since when it does that.
     since: Instant,
     /// When its client has no more time.
@@ -125,7 +141,11 @@ impl Connection {
             bytes: Vec::new(),
             sent: 0,
             taken: 0,
+            is_told: false,
             coming: Coming::new(READ),
+            replied: 0,
+            took: Duration::ZERO,
+            asked: 0,
             since: Instant::now(),
             end: None,
             readable: false,
@@ -179,11 +199,29 @@ impl Connection {
         self.hung_up |= hung_up;
     }
 
+    /// The core was so long at an order for it.
+    pub fn add_time(&mut self, took: Duration) {
+        self.took += took;
+    }
+
+    /// An order begins. Whether the core is to be told at once that its bytes are sent.
+    pub fn begin(&mut self, next: u8, asked: u64) -> bool {
+        self.is_told = next == TELL && !self.leaves && self.bytes.len() - self.sent <= AHEAD;
+        if self.is_told {
+            self.asked = asked;
+        }
+        self.is_told
+    }
+
     /// Bytes of an order came from the core. One that fails goes with the end of the order, since the core's bytes are for it until then.
     pub fn give(&mut self, bytes: &[u8], times: Times) {
         if self.doing != Doing::Sends {
             self.send(times);
         }
+        if self.end.is_none() {
+            self.end = Some(Instant::now() + times.piece);
+        }
+        self.replied += bytes.len();
         if self.leaves {
             return;
         }
@@ -191,12 +229,11 @@ impl Connection {
         if self.bytes.is_empty() && self.writable {
             match self.write(rest, times) {
                 Ok(count) => rest = &rest[count..],
-                Err(_) => {
-                    self.leaves = true;
-                    return;
-                }
+                Err(_) => return self.leave_later(),
             }
         }
+        self.bytes.drain(..self.sent);
+        self.sent = 0;
         self.bytes.extend_from_slice(rest);
     }
 
@@ -206,7 +243,7 @@ impl Connection {
         if is_bare {
             self.send(times);
         }
-        self.next = Some(next);
+        self.next = if self.is_told { None } else { Some(next) };
         let reads = next != TELL && next != CLOSE;
         if reads && (next == READ || next != self.coming.what || !is_bare) {
             self.coming = Coming::new(next);
@@ -224,20 +261,24 @@ impl Connection {
         loop {
             let went = match self.doing {
                 Doing::Waits => return Outcome::Waits,
-                Doing::Sends => self.go_on_sending(times),
+                Doing::Sends => self.go_on_sending(core, times),
                 Doing::Reads => return self.read(core).unwrap_or(Outcome::Gone),
                 Doing::Lingers => return self.linger(),
             };
             match went {
                 Ok(None) => {}
                 Ok(Some(outcome)) => return outcome,
+                Err(_) if self.doing == Doing::Sends && self.next.is_none() => {
+                    self.leave_later();
+                    return Outcome::Waits;
+                }
                 Err(_) => return Outcome::Gone,
             }
         }
     }
 
     /// Sends what it can; where all is sent, what comes then. None where it goes on with that.
-    fn go_on_sending(&mut self, times: Times) -> io::Result<Option<Outcome>> {
+    fn go_on_sending(&mut self, core: &Core, times: Times) -> io::Result<Option<Outcome>> {
         if self.leaves && self.next.is_some() {
             return Err(ErrorKind::ConnectionAborted.into());
         }
@@ -247,7 +288,17 @@ impl Connection {
             self.bytes = bytes;
             self.sent += written?;
         }
-        let (true, Some(next)) = (self.sent == self.bytes.len(), self.next) else {
+        if self.next == Some(TELL) && (1..=AHEAD).contains(&(self.bytes.len() - self.sent)) {
+            self.next = None;
+            self.asked = core.asked() + 1;
+            return Ok(Some(Outcome::Sent));
+        }
+        if self.sent < self.bytes.len() {
+            return Ok(Some(Outcome::Waits));
+        }
+        let Some(next) = self.next else {
+            self.let_go_of_bytes();
+            self.end = None; // it is waited for the core
             return Ok(Some(Outcome::Waits));
         };
         self.let_go_of_bytes();
@@ -255,6 +306,7 @@ impl Connection {
         match next {
             TELL => {
                 self.doing = Doing::Waits;
+                self.asked = core.asked() + 1;
                 Ok(Some(Outcome::Sent))
             }
             CLOSE => {
@@ -267,6 +319,12 @@ impl Connection {
                 Ok(None)
             }
         }
+    }
+
+    /// It goes with the order that the core owes it.
+    fn leave_later(&mut self) {
+        self.leaves = true;
+        self.let_go_of_bytes();
     }
 
     /// Nothing is left to be sent; a large room isn't kept.
@@ -298,6 +356,12 @@ impl Connection {
         }
     }
 
+    /// Whether the others have their time first: the last reply was a long one, it ended less long ago than the core was at it, and others ask.
+    fn waits_for_others(&self, core: &Core) -> bool {
+        let was_long = self.took >= LONG && self.replied >= MANY;
+        was_long && self.coming.what == READ && self.since.elapsed() < self.took && !core.is_free(self.asked)
+    }
+
     /// Reads once into the room of a report.
     fn read(&mut self, core: &mut Core) -> io::Result<Outcome> {
         if self.leaves && self.is_idle() {
@@ -309,9 +373,16 @@ impl Connection {
         if !core.has_room() {
             return Ok(Outcome::Held);
         }
+        if self.waits_for_others(core) {
+            return Ok(Outcome::Later);
+        }
         match (&self.stream).read(core.room()) {
             Ok(count) => {
                 self.readable = count == PIECE;
+                if self.coming.what == READ && self.coming.bytes == 0 {
+                    (self.replied, self.took) = (0, Duration::ZERO);
+                }
+                self.asked = core.asked() + 1;
                 self.coming.add(count, self.since.elapsed());
                 (self.doing, self.since, self.end) = (Doing::Waits, Instant::now(), None);
                 Ok(Outcome::Got(count))

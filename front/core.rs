@@ -8,9 +8,13 @@ use std::net::Shutdown;
 use std::os::fd::OwnedFd;
 use std::os::unix::net::UnixStream;
 use std::process::{Child, Command, Stdio};
+use std::time::{Duration, Instant};
 
 /// The most bytes of a report.
 pub const PIECE: usize = 65_536;
+
+/// The kinds of reports for which an order comes: a connection, bytes, and that bytes were sent.
+const ASKING: [u8; 3] = [1, 2, 3];
 
 /// The bytes of a report that come before its own.
 const HEAD: usize = 25;
@@ -21,11 +25,15 @@ const ORDER_HEAD: usize = 9;
 /// No client is read while so many bytes of reports wait for the core.
 const MOST_WAITING: usize = 1 << 20;
 
+/// A core that owes nothing for so long is free.
+const FREE: Duration = Duration::from_millis(1);
+
 /// So much of the orders is read at once.
 const ROOM: usize = 1 << 18;
 
-/// What is read of the orders: bytes of one, of a slot; or its end, with what to do then.
+/// What is read of the orders: that one begins, of a slot, with what to do after it; bytes of it; or its end.
 pub enum Part<'a> {
+    Begin(usize, u8),
     Bytes(usize, &'a [u8]),
     End(usize, u8),
 }
@@ -53,6 +61,12 @@ pub struct Core {
     readable: bool,
     hung_up: bool,
     clock: Clock,
+    /// How many reports asked for an order, and how many of these orders came.
+    asked: u64,
+    answered: u64,
+    /// Since when the core is at the next order, or owes none; and how long it was at the one that came last.
+    since: Instant,
+    took: Duration,
 }
 
 impl Core {
@@ -63,7 +77,23 @@ impl Core {
         command.stdin(Stdio::from(OwnedFd::from(of_core.try_clone()?))).stdout(Stdio::from(OwnedFd::from(of_core)));
         let child = command.spawn()?;
         let (reports, orders) = (vec![0; 2 * PIECE], vec![0; ROOM]);
-        let core = Core { socket, reports, written: 0, ended: 0, orders, used: 0, filled: 0, begun: None, readable: false, hung_up: false, clock };
+        let core = Core {
+            socket,
+            reports,
+            written: 0,
+            ended: 0,
+            orders,
+            used: 0,
+            filled: 0,
+            begun: None,
+            readable: false,
+            hung_up: false,
+            clock,
+            asked: 0,
+            answered: 0,
+            since: Instant::now(),
+            took: Duration::ZERO,
+        };
         Ok((core, child))
     }
 
@@ -92,6 +122,36 @@ impl Core {
         self.ended - self.written < MOST_WAITING
     }
 
+    /// How many reports asked for an order so far.
+    pub fn asked(&self) -> u64 {
+        self.asked
+    }
+
+    /// How long the core was at the order that came last.
+    pub fn took(&self) -> Duration {
+        self.took
+    }
+
+    /// Whether nobody else asked since so many reports did, or the core owes nothing for a moment.
+    pub fn is_free(&self, asked: u64) -> bool {
+        self.asked == asked || self.asked == self.answered && self.since.elapsed() >= FREE
+    }
+
+    /// A report asks for an order.
+    fn ask(&mut self) {
+        if self.asked == self.answered {
+            self.since = Instant::now();
+        }
+        self.asked += 1;
+    }
+
+    /// An order came.
+    fn answer(&mut self) {
+        self.answered += 1;
+        let now = Instant::now();
+        (self.took, self.since) = (now - self.since, now);
+    }
+
     /// Room for the bytes of a report, behind that for its head.
     pub fn room(&mut self) -> &mut [u8] {
         if self.written == self.ended {
@@ -113,6 +173,9 @@ impl Core {
         head[9..17].copy_from_slice(&self.clock.seconds().to_le_bytes());
         head[17..].copy_from_slice(&date().to_le_bytes());
         self.ended += HEAD + count;
+        if ASKING.contains(&kind) {
+            self.ask();
+        }
     }
 
     /// Reports bytes, at most as many as a report has.
@@ -169,9 +232,11 @@ impl Core {
         let Some(begun) = &mut self.begun else {
             let (head, _) = rest.split_at_checked(ORDER_HEAD)?;
             let number = |at: usize| u32::from_le_bytes([head[at], head[at + 1], head[at + 2], head[at + 3]]) as usize;
-            self.begun = Some(Begun { slot: number(0), next: head[4], left: number(5) });
+            let (slot, next) = (number(0), head[4]);
+            self.begun = Some(Begun { slot, next, left: number(5) });
             self.used += ORDER_HEAD;
-            return self.part();
+            self.answer();
+            return Some(Part::Begin(slot, next));
         };
         let slot = begun.slot;
         if begun.left == 0 {

@@ -1,7 +1,8 @@
 //! The front's one thread: what it is told by the kernel, by the core and by signals, and what it does then.
-use crate::Settings;
+use crate::{FAILED, Settings, bind, fail};
 use crate::connection::{Connection, Outcome, Times};
 use crate::core::{Core, PIECE, Part};
+use crate::files::Files;
 use crate::lists::Lists;
 use crate::poll::{Event, HUNG_UP, Poll, READABLE, WRITABLE};
 use crate::room;
@@ -35,10 +36,13 @@ const SECOND: Duration = Duration::from_secs(1);
 /// How often it is looked whose time has passed.
 const MOMENT: Duration = Duration::from_millis(50);
 
+/// So often it is looked whether those may read that have to wait for others.
+const TURN: Duration = Duration::from_millis(1);
+
 /// So long the last replies have to be sent, once the core has ended.
 const LAST: Duration = Duration::from_secs(2);
 
-/// After so many seconds the room that is left is reported again.
+/// After so many seconds the room that is left is reported again, and the files of the state are looked at.
 const MEASURED: u64 = 5;
 
 pub struct Front {
@@ -46,7 +50,9 @@ pub struct Front {
     child: Child,
     poll: Poll,
     slots: Slots,
-    listener: TcpListener,
+    address: String,
+    /// None until the core answers, where its state is waited for.
+    listener: Option<TcpListener>,
     /// Whether somebody may be waiting to be let in.
     comes: bool,
     /// Who waits for a slot.
@@ -54,10 +60,16 @@ pub struct Front {
     signals: UnixStream,
     lists: Option<Lists>,
     folder: Option<String>,
+    /// The files of the state, once the core answers, where their folder is told.
+    files: Option<Files>,
+    /// Whether a file of the state is another one by now, or can't be asked: the core was ended.
+    is_lost: bool,
     ready: Option<String>,
     times: Times,
     /// The slots of connections that would read, once the core has taken more reports.
     held: Vec<usize>,
+    /// The slots of connections that would read, once the others had their time.
+    later: Vec<usize>,
     /// Whether the core has answered: then it has read its state.
     is_ready: bool,
     is_ending: bool,
@@ -69,27 +81,33 @@ pub struct Front {
 }
 
 impl Front {
-    pub fn new(core: Core, child: Child, listener: TcpListener, signals: UnixStream, lists: Option<Lists>, settings: &Settings) -> io::Result<Front> {
+    pub fn new(core: Core, child: Child, listener: Option<TcpListener>, signals: UnixStream, lists: Option<Lists>, settings: &Settings) -> io::Result<Front> {
         let poll = Poll::new()?;
-        listener.set_nonblocking(true)?;
         signals.set_nonblocking(true)?;
         poll.add(core.socket(), CORE)?;
         poll.add(&signals, SIGNALS)?;
-        poll.add(&listener, LISTENER)?;
+        if let Some(listener) = &listener {
+            listener.set_nonblocking(true)?;
+            poll.add(listener, LISTENER)?;
+        }
         Ok(Front {
             core,
             child,
             poll,
             slots: Slots::new(settings.per_address),
+            address: settings.address.clone(),
             listener,
             comes: true,
             waiting: None,
             signals,
             lists,
             folder: settings.folder.clone(),
+            files: None,
+            is_lost: false,
             ready: settings.ready.clone(),
             times: settings.times,
             held: Vec::new(),
+            later: Vec::new(),
             is_ready: false,
             is_ending: false,
             second: Instant::now(),
@@ -101,6 +119,25 @@ impl Front {
     /// Whether the core's input was ended.
     pub fn is_ending(&self) -> bool {
         self.is_ending
+    }
+
+    /// Goes on with another core.
+    pub fn go_on_with(&mut self, core: Core, child: Child) -> io::Result<()> {
+        self.poll.add(core.socket(), CORE)?;
+        (self.core, self.child) = (core, child);
+        Ok(())
+    }
+
+    /// Waits for a second. False where it is to end.
+    pub fn pause(&mut self) -> bool {
+        let end = Instant::now() + SECOND;
+        while !self.is_ending && Instant::now() < end {
+            let events = self.poll.wait(end.saturating_duration_since(Instant::now())).to_vec();
+            if events.iter().any(|event| event.key == SIGNALS) {
+                self.do_as_signalled();
+            }
+        }
+        !self.is_ending
     }
 
     /// Tells the core that it is there, with random bytes, and asks whether the core answers, as a connection that comes and goes.
@@ -124,10 +161,12 @@ impl Front {
                 self.hear(*event);
             }
             if !self.take_orders() {
-                return self.child.wait().ok().and_then(|status| status.code());
+                let status = self.child.wait().ok().and_then(|status| status.code());
+                return if self.is_lost { Some(FAILED) } else { status };
             }
             if self.is_ready {
                 self.go_on_with_held();
+                self.go_on_with_later();
                 self.accept();
                 self.pass_time();
             }
@@ -153,7 +192,8 @@ impl Front {
         if !self.held.is_empty() && self.core.has_room() {
             return Duration::ZERO;
         }
-        self.second.min(self.moment).saturating_duration_since(Instant::now())
+        let rest = self.second.min(self.moment).saturating_duration_since(Instant::now());
+        if self.later.is_empty() { rest } else { rest.min(TURN) }
     }
 
     fn hear(&mut self, event: Event) {
@@ -179,6 +219,7 @@ impl Front {
         match connection.go_on(&mut self.core, self.times) {
             Outcome::Waits => {}
             Outcome::Held => self.held.push(slot),
+            Outcome::Later => self.later.push(slot),
             Outcome::Sent => self.core.report(slot, SENT, &[]),
             Outcome::Got(count) => self.core.report_room(slot, GOT, count),
             Outcome::Gone => self.end(slot),
@@ -200,6 +241,12 @@ impl Front {
         }
     }
 
+    fn go_on_with_later(&mut self) {
+        for slot in std::mem::take(&mut self.later) {
+            self.go_on(slot);
+        }
+    }
+
     /// Hands the core's orders to the connections. False where the core has ended.
     fn take_orders(&mut self) -> bool {
         while self.core.is_readable() {
@@ -208,6 +255,7 @@ impl Front {
             }
             while let Some(part) = self.core.part() {
                 match part {
+                    Part::Begin(slot, next) => self.begin_order(slot, next),
                     Part::Bytes(slot, bytes) => {
                         if let Some(connection) = self.slots.get(slot) {
                             connection.give(bytes, self.times);
@@ -220,21 +268,33 @@ impl Front {
         true
     }
 
+    /// An order begins: where its connection has little left to send, the core goes on with the next bytes at once.
+    fn begin_order(&mut self, slot: usize, next: u8) {
+        let asked = self.core.asked() + 1;
+        if self.slots.get(slot).is_some_and(|connection| connection.begin(next, asked)) {
+            self.core.report(slot, SENT, &[]);
+        }
+    }
+
     fn order(&mut self, slot: usize, next: u8) {
         if !self.is_ready {
             self.core.report(slot, GONE, &[]);
             self.begin();
         } else if let Some(connection) = self.slots.get(slot) {
+            connection.add_time(self.core.took());
             connection.order(next, self.times);
             self.go_on(slot);
         }
     }
 
-    /// The core answers.
+    /// The core answers: clients may come.
     fn begin(&mut self) {
         self.is_ready = true;
         (self.second, self.moment) = (Instant::now(), Instant::now());
-        if let (Some(text), Ok(address), None) = (&self.ready, self.listener.local_addr(), std::env::var_os("FRONT_BEGUN")) {
+        self.files = self.folder.clone().map(Files::new);
+        let (poll, address) = (&self.poll, &self.address);
+        let listener = self.listener.get_or_insert_with(|| listen(poll, address));
+        if let (Some(text), Ok(address), None) = (&self.ready, listener.local_addr(), std::env::var_os("FRONT_BEGUN")) {
             eprintln!("{}", text.replace("{port}", &address.port().to_string()));
         }
     }
@@ -244,8 +304,8 @@ impl Front {
         if let Some((stream, origin)) = self.waiting.take() {
             self.waiting = self.place(stream, origin);
         }
-        while self.comes && self.waiting.is_none() {
-            match self.listener.accept() {
+        while let (Some(listener), true, None) = (&self.listener, self.comes, &self.waiting) {
+            match listener.accept() {
                 Ok((stream, peer)) => self.waiting = self.place(stream, origin_of(peer.ip())),
                 Err(error) if error.kind() == ErrorKind::WouldBlock => self.comes = false,
                 Err(_) => return, // there is no more room for sockets: it is tried again in a moment
@@ -315,6 +375,7 @@ impl Front {
             self.seconds += 1;
             if self.seconds.is_multiple_of(MEASURED) {
                 self.report_room();
+                self.look_at_files();
             }
         }
     }
@@ -323,6 +384,16 @@ impl Front {
     fn report_room(&mut self) {
         if let Some(folder) = &self.folder {
             self.core.report(0, ROOM, &room::left(folder, self.child.id()).to_le_bytes());
+        }
+    }
+
+    /// Ends the core at once where a file of the state isn't at its name any more: what it answered is kept in a file that the next start
+    /// doesn't see.
+    fn look_at_files(&mut self) {
+        if let Some(file) = self.files.as_ref().and_then(Files::lost) {
+            eprintln!("serve: {file} isn't the file that was opened: the server ends");
+            self.is_lost = true;
+            let _ = self.child.kill();
         }
     }
 
@@ -348,4 +419,12 @@ impl Front {
             None => {}
         }
     }
+}
+
+/// Listens at an address, and has it told of who comes.
+fn listen(poll: &Poll, address: &str) -> TcpListener {
+    let listener = bind(address);
+    let added = listener.set_nonblocking(true).and_then(|()| poll.add(&listener, LISTENER));
+    added.unwrap_or_else(|error| fail(address, error));
+    listener
 }

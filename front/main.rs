@@ -11,6 +11,7 @@
 mod clock;
 mod connection;
 mod core;
+mod files;
 mod front;
 mod lists;
 mod poll;
@@ -28,7 +29,7 @@ use std::io::{self, ErrorKind, Read, Write};
 use std::net::TcpListener;
 use std::os::unix::net::UnixStream;
 use std::os::unix::process::CommandExt;
-use std::process::{Command, exit};
+use std::process::{Child, Command, exit};
 use std::thread;
 use std::time::{Duration, Instant};
 
@@ -37,8 +38,10 @@ const MOMENT: Duration = Duration::from_millis(20);
 /// So long an address is waited for that another server is letting go.
 const FREED: Duration = Duration::from_secs(3);
 
-/// The status of a core that ran out of memory.
+/// The status of a core that ran out of memory, of one whose disk failed, and of one whose state another process has.
 const NO_MEMORY: i32 = 3;
+const FAILED: i32 = 5;
+const IN_USE: i32 = 6;
 
 /// What the front is told when it begins.
 struct Settings {
@@ -51,6 +54,8 @@ struct Settings {
     folder: Option<String>,
     /// What is said once the core answers; `{port}` stands for the port.
     ready: Option<String>,
+    /// What is said where the state is in use, which is waited for then; the address is bound once the core answers.
+    wait: Option<String>,
     address: String,
     program: String,
     arguments: Vec<String>,
@@ -61,21 +66,44 @@ fn main() {
     let settings = read_settings();
     let lists = settings.lists.clone().map(Lists::new);
     poll::raise_open_files();
-    let listener = bind(&settings.address);
-    let mut command = Command::new(&settings.program);
-    command.args(&settings.arguments);
-    command.process_group(0); // Ctrl-C at a terminal is for the front alone
-    let (core, child) = core::Core::start(command, Clock::new()).unwrap_or_else(|error| fail(&settings.program, error));
+    let listener = settings.wait.is_none().then(|| bind(&settings.address));
+    let (core, child) = start(&settings);
     let (heard, mut hears) = UnixStream::pair().unwrap_or_else(|error| fail("the front", error));
     thread::spawn(move || while hears.write_all(&[signals.next() as u8]).is_ok() {});
     let mut front = Front::new(core, child, listener, heard, lists, &settings).unwrap_or_else(|error| fail("the front", error));
     front.greet(&random());
-    let status = front.serve();
+    let mut status = front.serve();
+    if let (Some(IN_USE), Some(text)) = (status, &settings.wait) {
+        eprintln!("{text}");
+        status = wait(&mut front, &settings);
+    }
     if status == Some(NO_MEMORY) && !front.is_ending() {
         begin_again();
     }
     front.send_last();
     exit(status.unwrap_or(75));
+}
+
+/// Starts the core.
+fn start(settings: &Settings) -> (core::Core, Child) {
+    let mut command = Command::new(&settings.program);
+    command.args(&settings.arguments);
+    command.process_group(0); // Ctrl-C at a terminal is for the front alone
+    core::Core::start(command, Clock::new()).unwrap_or_else(|error| fail(&settings.program, error))
+}
+
+/// Starts the core again, a second after it ended, until its state isn't in use; the status of the one that served, or of the end.
+fn wait(front: &mut Front, settings: &Settings) -> Option<i32> {
+    while front.pause() {
+        let (core, child) = start(settings);
+        front.go_on_with(core, child).unwrap_or_else(|error| fail("the front", error));
+        front.greet(&random());
+        let status = front.serve();
+        if status != Some(IN_USE) {
+            return status;
+        }
+    }
+    Some(0)
 }
 
 fn random() -> [u8; 16] {
@@ -92,6 +120,7 @@ fn read_settings() -> Settings {
         lists: None,
         folder: None,
         ready: None,
+        wait: None,
         address: String::new(),
         program: String::new(),
         arguments: Vec::new(),
@@ -106,6 +135,7 @@ fn read_settings() -> Settings {
             "--lists" => settings.lists = Some(value),
             "--room" => settings.folder = Some(value),
             "--ready" => settings.ready = Some(value),
+            "--wait" => settings.wait = Some(value),
             _ => usage(),
         }
         word = words.next().unwrap_or_else(|| usage());
@@ -155,7 +185,7 @@ fn begin_again() -> ! {
 }
 
 fn usage() -> ! {
-    eprintln!("usage: front [--idle SECONDS] [--piece-time SECONDS] [--per-address COUNT] [--lists FOLDER] [--room FOLDER] [--ready TEXT] ADDRESS:PORT PROGRAM [ARGUMENT..]");
+    eprintln!("usage: front [--idle SECONDS] [--piece-time SECONDS] [--per-address COUNT] [--lists FOLDER] [--room FOLDER] [--ready TEXT] [--wait TEXT] ADDRESS:PORT PROGRAM [ARGUMENT..]");
     exit(64)
 }
 

@@ -107,7 +107,7 @@ fn write_properties(entries: &[Entry], file: File) -> io::Result<usize> {
 }
 
 /// Makes the folder of an export; one that is there has to be empty.
-fn make_empty(to: &Path) -> Result<(), Ended> {
+pub fn make_empty(to: &Path) -> Result<(), Ended> {
     match fs::create_dir(to) {
         Err(error) if error.kind() == ErrorKind::AlreadyExists => match fs::read_dir(to).map(|mut entries| entries.next().is_none()) {
             Ok(true) => Ok(()),

@@ -1,11 +1,13 @@
-//! Files in and out of a state, and what a state has: `vuldarg import`, `export` and `check` (docs/SERVE.md, "In and out").
+//! Files in and out of a state, and what a state has: `vuldarg import`, `export`, `check`, `copy` and `cut` (docs/SERVE.md, "In and out").
 //!
-//! All of it asks the very program that serves the state, by requests over pipes: an import of the state itself, an export and a check of a
-//! private copy. So what a file is, and which state is damaged, is said in one place.
+//! What is asked of files is asked of the very program that serves the state, by requests over pipes: an import of the state itself, an export
+//! and a check of a private copy. So what a file is, and which state is damaged, is said in one place. A copy alone reads blocks by itself.
 #![forbid(unsafe_code)]
 
 mod check;
+mod copy;
 mod core;
+mod digest;
 mod export;
 mod http;
 mod import;
@@ -68,7 +70,7 @@ pub fn say(text: &str) {
 }
 
 fn usage() -> ! {
-    eprintln!("usage: transfer import|export|check PROGRAM FOLDER ROOM [OTHER] [--prefix /PATH] [--body BYTES]");
+    eprintln!("usage: transfer import|export|check|copy PROGRAM FOLDER ROOM [OTHER] [--prefix /PATH] [--body BYTES] [--at SECONDS] [--rate BYTES]");
     exit(1)
 }
 
@@ -111,6 +113,7 @@ fn main() {
         "import" => import::import(&words),
         "export" => export::export(&words),
         "check" => check::check(&words),
+        "copy" => copy::copy(&words),
         _ => usage(),
     };
     let status = match done {

@@ -15,6 +15,11 @@ const FIRST: usize = 57;
 /// How often a copy is tried of a state whose journal begins anew meanwhile.
 const TRIES: usize = 100;
 
+/// The bytes of a file by which it is seen that it begins anew; none where it is missing.
+pub fn first_bytes(path: &Path) -> io::Result<Option<Vec<u8>>> {
+    Ok(look(path)?.map(|(first, ..)| first))
+}
+
 /// The first bytes from `START` on, the length and the time of a file; none where it is missing.
 type Look = Option<(Vec<u8>, u64, Option<SystemTime>)>;
 
@@ -85,9 +90,9 @@ pub struct Blocks {
 }
 
 /// Reads numbers and texts of a block.
-struct Reading<R> {
-    from: R,
-    left: u64,
+pub struct Reading<R> {
+    pub from: R,
+    pub left: u64,
 }
 
 impl<R: Read + Seek> Reading<R> {
@@ -116,6 +121,31 @@ impl<R: Read + Seek> Reading<R> {
         let length = self.number()?;
         self.skip(length)
     }
+
+    /// The first block: generation, prefix and, if there is one, the snapshot: tokens, latest moment and what is saved. The generation and
+    /// that moment.
+    pub fn first(&mut self) -> io::Result<(u64, Option<u64>)> {
+        let generation = self.number()?;
+        self.skip_text()?;
+        if self.left == 0 {
+            return Ok((generation, None));
+        }
+        self.number()?;
+        let latest = self.number()?;
+        self.skip(self.left)?;
+        Ok((generation, Some(latest)))
+    }
+
+    /// A record of a turn: moment, status, principal, token, head and body. The moment.
+    pub fn record(&mut self) -> io::Result<u64> {
+        let moment = self.number()?;
+        self.bytes::<2>()?;
+        self.skip_optional()?;
+        self.skip_optional()?;
+        self.skip_text()?;
+        self.skip_text()?;
+        Ok(moment)
+    }
 }
 
 impl Blocks {
@@ -136,28 +166,18 @@ impl Blocks {
         Ok((found.count > 0).then_some(found))
     }
 
-    /// The first block: generation, prefix and, if there is one, the snapshot: tokens, latest moment and what is saved.
     fn take_first(&mut self, block: &mut Reading<impl Read + Seek>) -> io::Result<()> {
-        self.generation = block.number()?;
-        block.skip_text()?;
-        if block.left > 0 {
-            self.has_snapshot = true;
-            block.number()?;
-            self.latest = block.number()?;
-            block.skip(block.left)?;
-        }
+        let (generation, latest) = block.first()?;
+        self.generation = generation;
+        self.has_snapshot = latest.is_some();
+        self.latest = latest.unwrap_or(0);
         Ok(())
     }
 
-    /// The records of a turn: moment, status, principal, token, head and body.
+    /// The records of a turn.
     fn take_records(&mut self, block: &mut Reading<impl Read + Seek>) -> io::Result<()> {
         while block.left > 0 {
-            self.latest = self.latest.max(block.number()?);
-            block.bytes::<2>()?;
-            block.skip_optional()?;
-            block.skip_optional()?;
-            block.skip_text()?;
-            block.skip_text()?;
+            self.latest = self.latest.max(block.record()?);
             self.requests += 1;
         }
         Ok(())

@@ -3,6 +3,7 @@
        short   a read or write of half its bytes
        torn    half of a write is done, and then it fails (EIO)
        lost    a sync fails (EIO), and the file is again what it was at its last sync
+   With FAIL_ONCE=FILE each call fails as soon as that file is there, and with FREE_LOCKS=1 each lock of a range of bytes is had at once.
    A call that can't fail so is made as it is. At its end the program writes the count of calls to the file FAIL_TOLD.
    Built by tools/live/refused: cc -shared -fPIC -o failing_calls.so failing_calls.c -ldl; LD_PRELOAD=./failing_calls.so FAIL_CALL=7 .. */
 #define _GNU_SOURCE
@@ -21,6 +22,7 @@ enum { FILES = 64 };
 
 static long count, failing;
 static int goes_on, error_number;
+static const char *once;
 static char how;
 static char *synced[FILES];
 static off_t lengths[FILES];
@@ -38,7 +40,8 @@ __attribute__((constructor)) static void begin(void) {
     failing = number ? atol(number) : 0;
     goes_on = on && *on == '1';
     how = told ? *told : '0';
-    error_number = how >= '0' && how <= '9' ? atoi(told) : EIO;
+    error_number = told && how >= '0' && how <= '9' ? atoi(told) : EIO;
+    once = getenv("FAIL_ONCE");
     real_open = dlsym(RTLD_NEXT, "open");
     real_pread = dlsym(RTLD_NEXT, "pread");
     real_pwrite = dlsym(RTLD_NEXT, "pwrite");
@@ -49,6 +52,7 @@ __attribute__((constructor)) static void begin(void) {
 
 static int fails(void) {
     count++;
+    if (once && !access(once, F_OK)) return 1;
     return failing > 0 && (count == failing || (goes_on && count > failing));
 }
 
@@ -129,6 +133,29 @@ int fsync(int file) { return sync_by(real_fsync, file); }
 int ftruncate(int file, off_t length) {
     if (is_of_state(file) && fails() && how >= '0' && how <= '9') return fault();
     return real_ftruncate(file, length);
+}
+
+/* A lock of a range of bytes (F_OFD_SETLK). */
+static int lock_by(const char *name, int file, int command, void *more) {
+    if (command == F_OFD_SETLK && getenv("FREE_LOCKS")) return 0;
+    int (*real)(int, int, ...) = (int (*)(int, int, ...))dlsym(RTLD_NEXT, name);
+    return real(file, command, more);
+}
+
+int fcntl(int file, int command, ...) {
+    va_list more;
+    va_start(more, command);
+    void *told = va_arg(more, void *);
+    va_end(more);
+    return lock_by("fcntl", file, command, told);
+}
+
+int fcntl64(int file, int command, ...) {
+    va_list more;
+    va_start(more, command);
+    void *told = va_arg(more, void *);
+    va_end(more);
+    return lock_by("fcntl64", file, command, told);
 }
 
 __attribute__((destructor)) static void tell(void) {

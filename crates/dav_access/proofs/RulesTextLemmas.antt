@@ -1,8 +1,8 @@
 -- The text of the rules, word by word and line by line.
-use Rattle.std.proofs.Common.{◌≡◌, ◌≢◌, ◌==◌, ℕ, suc, ◌+◌, ◌<◌, ◌≤◌, Bool, true, false, not, cond, List, [], ◌∷◌, ◌++◌, All, Contains, Option, Some, None, MatchOption, Result, Ok, Err, MatchResult, codes, drop, get_or, length, map, take, refl, sym, ap, ◌∙◌, subst, append_assoc, append-nil, arith, eqb-true}
+use Rattle.std.proofs.Common.{◌≡◌, ◌≢◌, ◌==◌, ℕ, suc, ◌+◌, ◌<◌, ◌≤◌, true, false, not, cond, List, [], ◌∷◌, ◌++◌, All, Option, Some, None, MatchOption, codes, drop, get_or, length, map, take, refl, sym, ap, ◌∙◌, subst, append_assoc, append-nil, arith, eqb-true}
 use Rattle.std.specs.List.{filter, slice_split}
 use Rattle.std.specs.Option.{is_some}
-use Rattle.std.proofs.lemmas.List.{drop_all, drop_more, get_or-map, get_or_default, length-map, map-append, take-append-drop, take_all, take_more}
+use Rattle.std.proofs.lemmas.List.{drop_all, drop_more, get_or-map, length-map, map-append, take-append-drop, take_all, take_more}
 use Rattle.std.proofs.lemmas.Bool.{false_from_ne_true}
 use Rattle.std.proofs.lemmas.List.Elements.{All-push, filter-append}
 use denote.Ref.{Bor}
@@ -19,8 +19,8 @@ use Rattle.dav_access.specs.declared.grant.Grant.{Grant}
 use Rattle.dav_access.specs.declared.grant.Right.{Right}
 use Rattle.dav_access.specs.declared.grant.Whom.{Whom}
 use Rattle.dav_access.specs.declared.grant.Whom.TheVariants.{User}
-use Rattle.dav_access.specs.RulesText.{AllUsers, Grants, IsGrantLine, ended, grant, has_taken_name, is_silent, HasNoGroup, IsRulesLine, IsGroupIn, IsPlain, IsRightWord, MeanAll, Means, SaysGroup, is_user, lines_of, more, next, none, user, users_among, words_of}
-use Rattle.dav_access.specs.RulesFaults.{HasFirstFault, IsAccessFault, IsGrantsFault, error_at, grant as fault_grant, HasUnknown, IfFault, IsGrantFault, IsGroupFault, IsRulesLineFault, IsLinesFault, IsNoText, IsPathFault, IsUnknown, IsWordsFault, NamesDoubleGroup, NamesNoRight, NamesNoUser, bad_path, double, here, later, no_right, unknown}
+use Rattle.dav_access.specs.RulesText.{AllUsers, Grants, ended, has_taken_name, HasNoGroup, IsRulesLine, IsGroupIn, IsPlain, IsRightWord, MeanAll, Means, SaysGroup, is_user, lines_of, more, next, none, user, users_among, words_of}
+use Rattle.dav_access.specs.RulesFaults.{HasFirstFault, IsAccessFault, IsGrantsFault, error_at, HasUnknown, IfFault, IsGrantFault, IsGroupFault, IsRulesLineFault, IsLinesFault, IsNoText, IsPathFault, IsUnknown, IsWordsFault, NamesDoubleGroup, NamesNoRight, NamesNoUser, bad_path, double, here, later, no_right, unknown}
 
 -- a list around one of its items
 pub cut_at : {X : Type 0} (xs : List X) (place : ℕ) (x : X) → place < length xs → x ≡ get_or xs place x → xs ≡ take place xs ++ x ∷ drop (place + 1) xs
@@ -266,17 +266,6 @@ pub grants_done : (users : Option (List (List ℕ × List ℕ))) (lines : List (
 grants_done users lines place grants whole so_far =
     subst (Grants users lines [] lines) (append-nil grants)
     (so_far [] (subst (λ (r : List (List (List ℕ))). Grants users lines (take place lines) r []) (sym (drop_all place lines whole)) ended))
-
--- a line that grants, or is to
-pub granted_line : {V : Type 0} (items : V → List Grant) (users : Option (List (List ℕ × List ℕ))) (lines before : List (List (List ℕ))) (line words : List (List ℕ)) (r : Result V Stop)
-    → line ≡ words → is_silent line ≡ false → ((word : List ℕ) (members : List (List ℕ)) → ¬ SaysGroup line word members)
-    → MatchResult r (λ v. IsGrantLine users lines words (items v)) (IfFault (IsGrantFault users lines words))
-    → MatchResult r (λ v. IsRulesLine users lines before line (items v)) (IfFault (IsRulesLineFault users lines before line))
-granted_line items users lines before line words (Ok v) same loud says_none is =
-    grant loud says_none (subst (λ (l : List (List ℕ)). IsGrantLine users lines l (items v)) (sym same) is)
-granted_line items users lines before line words (Err s) same loud says_none is =
-    fault_as (IsGrantFault users lines words) (IsRulesLineFault users lines before line) s
-    (λ f bad. fault_grant loud says_none (subst (λ (l : List (List ℕ)). IsGrantFault users lines l f) (sym same) bad)) is
 
 -- the first fault of the lines, as an error
 pub fault_error : (users : Option (List (List ℕ × List ℕ))) (lines : List (List (List ℕ))) (number : ℕ) (s : Stop)

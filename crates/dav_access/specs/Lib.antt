@@ -7,5 +7,6 @@ pub mod Reading
 pub mod Principals
 pub mod Logins
 pub mod Rules
+pub mod Amounts
 pub mod RulesText
 pub mod RulesFaults

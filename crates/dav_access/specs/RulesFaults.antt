@@ -1,5 +1,5 @@
 -- Why a text is no text of rules.
-use Rattle.std.specs.Prelude.{◌≡◌, ◌≢◌, ◌⊎◌, ◌+◌, ℕ, true, false, List, [], ◌∷◌, ◌++◌, All, Option, None, codes, string_bytes}
+use Rattle.std.specs.Prelude.{◌≡◌, ◌≢◌, ◌⊎◌, ◌+◌, ℕ, true, false, List, [], ◌∷◌, ◌++◌, All, None, codes, string_bytes}
 use Rattle.std.specs.Str.{IsUtf8}
 use Rattle.percent_encoding.specs.Percent.{percent_decode}
 use Rattle.dav_core.specs.Path.{PathText, star}
@@ -9,13 +9,18 @@ use Rattle.dav_core.specs.declared.errors.ParseError.TheVariants.{InvalidPath, M
 use Rattle.dav_access.specs.declared.fault.AccessError.{AccessError}
 use Rattle.dav_access.specs.declared.fault.AccessError.TheVariants.{Line, NotUtf8, TakenName, Memory}
 use Rattle.dav_access.specs.declared.fault.Fault.{Fault}
-use Rattle.dav_access.specs.declared.fault.Fault.TheVariants.{NoRight, NoPath, BadPath, Nobody, NoUser, NoGroup, DoubleGroup}
+use Rattle.dav_access.specs.declared.fault.Fault.TheVariants.{NoRight, NoPath, BadPath, Nobody, NoUser, NoGroup, DoubleGroup, NoNumber, BadNumber, TooMany}
 use Rattle.dav_access.specs.declared.fault.Stop.{Stop}
 use Rattle.dav_access.specs.declared.fault.Stop.TheVariants.{Fault as AtFault, Memory as OutOfMemory}
 use Rattle.dav_access.specs.declared.grant.Grant.{Grant}
 use Rattle.dav_access.specs.declared.grant.Right.{Right}
 use Rattle.dav_access.specs.declared.grant.Whom.{Whom}
-use Rattle.dav_access.specs.RulesText.{AllUsers, Lines, UserList, Words, HasNoGroup, IsRulesLine, IsGroupIn, IsPathWord, IsPlain, IsRightWord, MeanAll, SaysGroup, has_taken_name, is_group, is_silent, is_user, lines_of}
+use Rattle.dav_access.specs.declared.limit.Limit.{Limit}
+use Rattle.dav_access.specs.declared.limit.Measure.{Measure}
+use Rattle.dav_access.specs.declared.limit.Said.{Said}
+use Rattle.dav_access.specs.declared.limit.Said.TheVariants.{Granted, Limited}
+use Rattle.dav_access.specs.Amounts.{IsAmount}
+use Rattle.dav_access.specs.RulesText.{AllUsers, BeginsLimit, IsLimitLine, Lines, UserList, Words, HasNoGroup, IsRulesLine, IsGroupIn, IsMeasureWord, IsPathWord, IsPlain, IsRightWord, MeanAll, SaysGroup, has_taken_name, is_group, is_silent, is_user, lines_of}
 
 -- a word of a grant is no user's name, or means each user where there is no list of users
 pub data MeansNoUser (users : UserList) (word : List ℕ) : Type 0 where
@@ -64,6 +69,28 @@ pub data IsGrantFault (users : UserList) (lines : Lines)
       → IsPathWord path_word path
       → HasUnknown users lines names fault → IsGrantFault users lines line fault
 
+-- why what follows the path of a line that limits isn't one number: nothing follows, the first word
+-- is none, or there is a second
+pub data IsMostFault (words : Words) : Fault → Type 0 where
+  no_number : words ≡ [] → IsMostFault words NoNumber
+  bad_number : {word : List ℕ} {rest : Words} {text : _} → words ≡ word ∷ rest
+      → ((number : ℕ) → ¬ IsAmount word number) → string_bytes text ≡ word
+      → IsMostFault words (BadNumber text)
+  too_many : {word extra : List ℕ} {rest : Words} {number : ℕ} {text : _}
+      → words ≡ word ∷ extra ∷ rest → IsAmount word number → string_bytes text ≡ extra
+      → IsMostFault words (TooMany text)
+
+-- the first fault of a line that is to limit something: the path, and then how much
+pub data IsLimitFault (line : Words) : Fault → Type 0 where
+  no_path : {word : List ℕ} {measure : Measure} → line ≡ word ∷ [] → IsMeasureWord word measure
+      → IsLimitFault line NoPath
+  bad_path : {word path_word : List ℕ} {words : Words} {measure : Measure} {error : ParseError}
+      → line ≡ word ∷ path_word ∷ words → IsMeasureWord word measure → IsBadPath path_word error
+      → IsLimitFault line (BadPath error)
+  most : {word path_word : List ℕ} {words : Words} {measure : Measure} {path : PathText}
+      {fault : Fault} → line ≡ word ∷ path_word ∷ words → IsMeasureWord word measure
+      → IsPathWord path_word path → IsMostFault words fault → IsLimitFault line fault
+
 -- the first fault of a line that says who is in a group: a line before it says so too, nobody is
 -- named, or a word is no user's name
 pub data IsGroupFault (users : UserList) (before : Lines)
@@ -82,7 +109,8 @@ pub data IsRulesLineFault (users : UserList) (lines before : Lines)
   group : {word : List ℕ} {members : Words} → SaysGroup line word members
       → IsGroupFault users before word members fault
       → IsRulesLineFault users lines before line fault
-  grant : is_silent line ≡ false
+  limit : IsLimitFault line fault → IsRulesLineFault users lines before line fault
+  grant : is_silent line ≡ false → ¬ BeginsLimit line
       → ((word : List ℕ) (members : Words) → ¬ SaysGroup line word members)
       → IsGrantFault users lines line fault → IsRulesLineFault users lines before line fault
 
@@ -144,6 +172,16 @@ abbrev pub NamesDoubleGroup : List ℕ → Fault → Type 0
 NamesDoubleGroup word (DoubleGroup text) = string_bytes text ≡ word
 NamesDoubleGroup word _ = ⊥
 
+-- the fault is that the word is no number
+abbrev pub NamesBadNumber : List ℕ → Fault → Type 0
+NamesBadNumber word (BadNumber text) = string_bytes text ≡ word
+NamesBadNumber word _ = ⊥
+
+-- the fault is that the word is one too many
+abbrev pub NamesTooMany : List ℕ → Fault → Type 0
+NamesTooMany word (TooMany text) = string_bytes text ≡ word
+NamesTooMany word _ = ⊥
+
 -- some of these words isn't UTF-8, or memory ran out
 abbrev pub IsWordsFault : Words → AccessError → Type 0
 IsWordsFault words NotUtf8 = ¬ All IsUtf8 words
@@ -166,3 +204,22 @@ IsGrantsFault users lines _ = ⊥
 abbrev pub error_at : ℕ → Stop → AccessError
 error_at number (AtFault fault) = Line number fault
 error_at number OutOfMemory = Memory
+
+-- ---- what a line says
+
+-- what a good line of a text says, of whose lines these are before it: what it grants, where it
+-- doesn't limit anything, or its limit
+abbrev pub Says : UserList → Lines → Lines → Words → Said → Type 0
+Says users lines before line (Granted grants) =
+    (¬ BeginsLimit line) × IsRulesLine users lines before line grants.items
+Says users lines before line (Limited l) = IsLimitLine line l
+
+-- the grants of a line that says this
+abbrev pub granted_by : Said → List Grant
+granted_by (Granted grants) = grants.items
+granted_by (Limited l) = []
+
+-- the limits of a line that says this: one at most
+abbrev pub limited_by : Said → List Limit
+limited_by (Granted grants) = []
+limited_by (Limited l) = l ∷ []

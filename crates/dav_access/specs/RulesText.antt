@@ -1,5 +1,6 @@
--- The text of the rules. A line grants a right at a path, or says who is in a group; one without
--- words and one whose first word begins with `#` say nothing.
+-- The text of the rules. A line grants a right at a path, limits how much there may be at a path and
+-- below it, or says who is in a group; one without words and one whose first word begins with `#`
+-- say nothing.
 use Rattle.std.specs.Prelude.{◌≡◌, ◌≢◌, ◌==◌, ◌||◌, ℕ, All, Bool, true, false, bytes_eq, List, [], ◌∷◌, ◌++◌, Contains, Option, Some, None, codes, map}
 use Rattle.std.specs.Char.{is_ascii_whitespace}
 use Rattle.std.specs.List.{filter, list_any, slice_split}
@@ -11,6 +12,10 @@ use Rattle.dav_access.specs.declared.grant.Right.{Right}
 use Rattle.dav_access.specs.declared.grant.Right.TheVariants.{Read, Write, Admin}
 use Rattle.dav_access.specs.declared.grant.Whom.{Whom}
 use Rattle.dav_access.specs.declared.grant.Whom.TheVariants.{Everybody, EachUser, User}
+use Rattle.dav_access.specs.declared.limit.Limit.{Limit}
+use Rattle.dav_access.specs.declared.limit.Measure.{Measure}
+use Rattle.dav_access.specs.declared.limit.Measure.TheVariants.{Files, Space}
+use Rattle.dav_access.specs.Amounts.{IsAmount}
 
 -- the names and secrets of the users, where there is a list of them
 abbrev pub UserList : Type 0
@@ -121,11 +126,33 @@ pub record IsGrantLine (users : UserList) (lines : Lines)
   pub mean : MeanAll users lines names whom
   pub grants_are : grants ≡ map (λ w. record { whom = w; right = right; path = path }) whom
 
+-- the word of what a line limits: how many files and folders there are, or how many bytes files have
+pub data IsMeasureWord (word : List ℕ) : Measure → Type 0 where
+  files : word ≡ codes "files" → IsMeasureWord word Files
+  space : word ≡ codes "space" → IsMeasureWord word Space
+
+-- a line begins with the word of what it limits
+abbrev pub BeginsLimit : Words → Type 0
+BeginsLimit [] = ⊥
+BeginsLimit (word ∷ words) = (measure : Measure) × IsMeasureWord word measure
+
+-- a line that limits how much there may be at a path and below it: what it limits, the path, and how
+-- much it may be at most
+pub record IsLimitLine (line : Words) (limit : Limit) : Type 0 where
+  pub measure_word : List ℕ
+  pub path_word : List ℕ
+  pub most_word : List ℕ
+  pub line_is : line ≡ measure_word ∷ path_word ∷ most_word ∷ []
+  pub is_measure : IsMeasureWord measure_word limit.measure
+  pub is_path : IsPathWord path_word limit.path
+  pub is_most : IsAmount most_word limit.most
+
 -- each of these words names a user
 abbrev pub AllUsers : UserList → Words → Type 0
 AllUsers users words = All (λ word. is_user users (percent_decode word) ≡ true) words
 
--- a good line of a text, of whose lines these are before it; and the grants that it makes
+-- A good line of a text, of whose lines these are before it; and the grants that it makes. One that
+-- limits grants nothing.
 pub data IsRulesLine (users : UserList) (lines before : Lines)
     (line : Words) : List Grant → Type 0 where
   silent : is_silent line ≡ true → IsRulesLine users lines before line []
@@ -135,6 +162,7 @@ pub data IsRulesLine (users : UserList) (lines before : Lines)
   grant : {grants : List Grant} → is_silent line ≡ false
       → ((word : List ℕ) (members : Words) → ¬ SaysGroup line word members)
       → IsGrantLine users lines line grants → IsRulesLine users lines before line grants
+  limit : {l : Limit} → IsLimitLine line l → IsRulesLine users lines before line []
 
 -- Lines of a text that come after these grant this, one after the other.
 pub data Grants (users : UserList) (lines : Lines)
@@ -148,6 +176,18 @@ pub data Grants (users : UserList) (lines : Lines)
 -- a text is that of these rules
 abbrev pub AreRulesOf : UserList → List ℕ → List Grant → Type 0
 AreRulesOf users text rules = Grants users (lines_of text) [] (lines_of text) rules
+
+-- the limits of lines, one after the other
+pub data Limits : Lines → List Limit → Type 0 where
+  ended : Limits [] []
+  limit : {line : Words} {rest : Lines} {l : Limit} {more : List Limit} → IsLimitLine line l
+      → Limits rest more → Limits (line ∷ rest) (l ∷ more)
+  other : {line : Words} {rest : Lines} {more : List Limit} → ¬ BeginsLimit line
+      → Limits rest more → Limits (line ∷ rest) more
+
+-- these are the limits of a text, in the order of its lines
+abbrev pub AreLimitsOf : List ℕ → List Limit → Type 0
+AreLimitsOf text limits = Limits (lines_of text) limits
 
 -- a name of the list, if there is one, that means more than one user in a text of rules
 abbrev pub has_taken_name : UserList → Bool

@@ -27,6 +27,15 @@ pub enum Fault {
     /// A line before it says who is in this group.
     #[error("the group '{0}' is defined twice")]
     DoubleGroup(String),
+    /// It has no number.
+    #[error("there is no number in it")]
+    NoNumber,
+    /// This isn't a number, or none below 2 ^ 64.
+    #[error("'{0}' isn't a number that it can be")]
+    BadNumber(String),
+    /// This word follows its last one.
+    #[error("'{0}' is a word too many")]
+    TooMany(String),
 }
 
 /// Why a text is no text of rules.

@@ -3,11 +3,15 @@ ghost use Rattle.std.specs.Prelude.{◌≡◌, ◌≢◌, ◌++◌, ℕ, [], ◌
 ghost use Rattle.std.specs.Option.{option_copied};
 ghost use Rattle.percent_encoding.specs.Percent.{percent_decode};
 ghost use Rattle.dav_access.specs.declared.grant.Right.{Right as RightValue};
-ghost use Rattle.dav_access.specs.RulesText.{AreRulesOf, IsPathWord, IsRightWord, has_taken_name, is_user};
-ghost use Rattle.dav_access.specs.RulesFaults.{IfFault, IsAccessFault, IsPathFault, NamesDoubleGroup, NamesNoGroup, NamesNoRight, NamesNoUser};
+ghost use Rattle.dav_access.specs.declared.limit.Measure.{Measure as MeasureValue};
+ghost use Rattle.dav_access.specs.Amounts.{IsAmount};
+ghost use Rattle.dav_access.specs.RulesText.{AreLimitsOf, AreRulesOf, BeginsLimit, IsLimitLine, IsMeasureWord, IsPathWord, IsRightWord, has_taken_name, is_user};
+ghost use Rattle.dav_access.specs.RulesFaults.{IfFault, IsAccessFault, IsLimitFault, IsMostFault, IsPathFault, NamesBadNumber, NamesDoubleGroup, NamesNoGroup, NamesNoRight, NamesNoUser, NamesTooMany, granted_by, limited_by};
 
+use crate::amount::amount_of;
 use crate::fault::{AccessError, Fault, Stop};
 use crate::grant::{Grant, Right, Whom};
+use crate::limit::{Access, Limit, Measure, Said};
 use crate::line::{Line, is_comment, is_group, lines_of, members_of};
 use crate::name::Name;
 use crate::rules::Rules;
@@ -26,6 +30,18 @@ fn right_of(word: &str) -> Option<Right>
         "read" => Some(Right::Read),
         "write" => Some(Right::Write),
         "admin" => Some(Right::Admin),
+        _ => None,
+    }
+}
+
+// What a word says to be limited.
+fn measure_of(word: &str) -> Option<Measure>
+    ensures { MatchOption result ((measure : MeasureValue) → ¬ IsMeasureWord word.now measure)
+        (IsMeasureWord word.now) }
+{
+    match word {
+        "files" => Some(Measure::Files),
+        "space" => Some(Measure::Space),
         _ => None,
     }
 }
@@ -104,6 +120,64 @@ fn double_group(alloc: Global, word: &str) -> Stop
     }
 }
 
+// A word that is no number.
+fn bad_number(alloc: Global, word: &str) -> Stop
+    ensures { IfFault (NamesBadNumber word.now) result }
+{
+    match String::from_str(alloc, word) {
+        Ok(text) => Stop::Fault(Fault::BadNumber(text)),
+        Err(_) => Stop::Memory,
+    }
+}
+
+// A word that follows the last one.
+fn too_many(alloc: Global, word: &str) -> Stop
+    ensures { IfFault (NamesTooMany word.now) result }
+{
+    match String::from_str(alloc, word) {
+        Ok(text) => Stop::Fault(Fault::TooMany(text)),
+        Err(_) => Stop::Memory,
+    }
+}
+
+// How much a limit is, by the words that follow its path.
+fn most_of(alloc: Global, words: &[&str]) -> Result<u64, Stop>
+    ensures { MatchResult result
+        (λ most. (word : List ℕ) × (map (λ w. w.now) words.now ≡ word ∷ []) × IsAmount word most)
+        (IfFault (IsMostFault (map (λ w. w.now) words.now))) }
+{
+    let Some((word, rest)) = words.split_first() else {
+        return Err(Stop::Fault(Fault::NoNumber));
+    };
+    let Some(most) = amount_of(word) else {
+        return Err(bad_number(alloc, word));
+    };
+    match rest.split_first() {
+        Some((extra, _)) => Err(too_many(alloc, extra)),
+        None => Ok(most),
+    }
+}
+
+// What a line with these words limits, if it begins with the word for that.
+fn limited(alloc: Global, word: &str, rest: &[&str]) -> Result<Option<Limit>, Stop>
+    ensures { MatchResult result
+        (λ limit. MatchOption limit (¬ BeginsLimit (word.now ∷ map (λ w. w.now) rest.now))
+        (IsLimitLine (word.now ∷ map (λ w. w.now) rest.now)))
+        (IfFault (IsLimitFault (word.now ∷ map (λ w. w.now) rest.now))) }
+{
+    let Some(measure) = measure_of(word) else {
+        return Ok(None);
+    };
+    let Some((path, words)) = rest.split_first() else {
+        return Err(Stop::Fault(Fault::NoPath));
+    };
+    Ok(Some(Limit {
+        path: path_of(alloc, path)?,
+        measure,
+        most: most_of(alloc, words)?,
+    }))
+}
+
 // A grant of this right at this path for each of these.
 fn grants_for(
     alloc: Global,
@@ -125,6 +199,18 @@ fn grants_for(
     Ok(grants)
 }
 
+// Adds what a line says to what the lines before it say.
+fn add(grants: &mut Vec<Grant>, limits: &mut Vec<Limit>, said: Said) -> Result<(), AllocError>
+    ensures { IfOk result (λ _. (grants.new.items ≡ grants.old.items ++ granted_by said)
+        × (limits.new.items ≡ limits.old.items ++ limited_by said)) }
+{
+    match said {
+        Said::Granted(mut more) => grants.append(&mut more)?,
+        Said::Limited(limit) => limits.push(limit)?,
+    }
+    Ok(())
+}
+
 // Where words are read: the users, if there is a list of them, and the lines of the text.
 #[derive(Drop)]
 struct Reader<'l, 't> {
@@ -136,8 +222,8 @@ struct Reader<'l, 't> {
 impl<'l, 't> Reader<'l, 't> {
     ghost use Rattle.std.specs.Prelude.{◌≡◌, ◌≢◌, ℕ, List, [], ◌∷◌, true, false, MatchResult, map};
     ghost use Rattle.std.specs.Option.{option_copied};
-    ghost use Rattle.dav_access.specs.RulesText.{AllUsers, Grants, HasNoGroup, IsRulesLine, IsGrantLine, MeanAll, Means, is_group};
-    ghost use Rattle.dav_access.specs.RulesFaults.{HasUnknown, IfFault, IsGrantFault, IsGrantsFault, IsGroupFault, IsRulesLineFault, IsUnknown};
+    ghost use Rattle.dav_access.specs.RulesText.{AllUsers, Grants, HasNoGroup, IsGrantLine, Limits, MeanAll, Means, is_group};
+    ghost use Rattle.dav_access.specs.RulesFaults.{HasUnknown, IfFault, IsGrantFault, IsGrantsFault, IsGroupFault, IsRulesLineFault, IsUnknown, Says};
 
     // Whom a word means that is no group.
     fn one_of(&self, word: &str) -> Result<Whom, Stop>
@@ -251,42 +337,48 @@ impl<'l, 't> Reader<'l, 't> {
         Ok(grants_for(self.alloc, whom, right, &path)?)
     }
 
-    // What a line grants, where these are before it.
-    fn read_line(&self, before: &[Line<'t>], line: &Line<'t>) -> Result<Vec<Grant>, Stop>
+    // What a line says, where these are before it.
+    fn read_line(&self, before: &[Line<'t>], line: &Line<'t>) -> Result<Said, Stop>
         ensures { MatchResult result
-            (λ grants. IsRulesLine (option_copied self.now.users) self.now.lines.now before.now
-            line.now grants.items)
+            (Says (option_copied self.now.users) self.now.lines.now before.now line.now)
             (IfFault (IsRulesLineFault (option_copied self.now.users) self.now.lines.now before.now
             line.now)) }
     {
         let Some((word, rest)) = line.words().split_first() else {
-            return Ok(Vec::new(self.alloc));
+            return Ok(Said::Granted(Vec::new(self.alloc)));
         };
         if is_comment(word) {
-            return Ok(Vec::new(self.alloc));
+            return Ok(Said::Granted(Vec::new(self.alloc)));
+        }
+        if let Some(limit) = limited(self.alloc, word, rest)? {
+            return Ok(Said::Limited(limit));
         }
         let Some((group, members)) = line.group() else {
-            return self.granted(word, rest);
+            return Ok(Said::Granted(self.granted(word, rest)?));
         };
         self.check_group(before, group, members)?;
-        Ok(Vec::new(self.alloc))
+        Ok(Said::Granted(Vec::new(self.alloc)))
     }
 
-    // What the lines grant.
-    fn grants(&self) -> Result<Vec<Grant>, AccessError>
+    // What the lines say.
+    fn read_lines(&self) -> Result<Access, AccessError>
         ensures { MatchResult result
-            (λ grants. Grants (option_copied self.now.users) self.now.lines.now []
-            self.now.lines.now grants.items)
+            (λ access. Grants (option_copied self.now.users) self.now.lines.now []
+            self.now.lines.now access.rules × Limits self.now.lines.now access.limits.items)
             (IsGrantsFault (option_copied self.now.users) self.now.lines.now) }
     {
         let mut grants = Vec::new(self.alloc);
+        let mut limits = Vec::new(self.alloc);
         for (place, line) in self.lines.iter().enumerate() {
             match self.read_line(&self.lines[..place], line) {
-                Ok(mut more) => grants.append(&mut more)?,
+                Ok(said) => add(&mut grants, &mut limits, said)?,
                 Err(stop) => return Err(stop.at(place + 1)),
             }
         }
-        Ok(grants)
+        Ok(Access {
+            rules: Rules::new(grants),
+            limits,
+        })
     }
 }
 
@@ -300,17 +392,22 @@ fn has_taken_name(users: Option<&Users>) -> bool
     }
 }
 
-/// The rules of a text of lines `right path whom..` and `@group = user..`; lines without words, and
-/// those that begin with `#`, say nothing.
+/// The rules and the limits of a text of lines `right path whom..`, `@group = user..`, and
+/// `files path most` or `space path most`; lines without words, and those that begin with `#`, say
+/// nothing.
 ///
 /// A right is `read`, `write` or `admin`; a path is written as in a URL, below the prefix; `whom`
-/// is `everybody`, `users`, a group or the name of a user, which is written as in a URL. `Line` has
-/// the first line that is at fault, and its first fault. Before that comes `TakenName` where a user is
-/// called `everybody` or `users`, and then `NotUtf8` where a word isn't UTF-8.
-pub fn read(alloc: Global, text: &[u8], users: Option<&Users>) -> Result<Rules, AccessError>
+/// is `everybody`, `users`, a group or the name of a user, which is written as in a URL. `most` is
+/// a number of files and folders, or of bytes: decimal digits, which may end in `k`, `m` or `g` of
+/// 1,024.
+///
+/// `Line` has the first line that is at fault, and its first fault. Before that comes `TakenName`
+/// where a user is called `everybody` or `users`, and then `NotUtf8` where a word isn't UTF-8.
+pub fn read(alloc: Global, text: &[u8], users: Option<&Users>) -> Result<Access, AccessError>
     ensures { MatchResult result
-        (λ rules. (has_taken_name (option_copied users.entry) ≡ false)
-        × AreRulesOf (option_copied users.entry) text.now rules)
+        (λ access. (has_taken_name (option_copied users.entry) ≡ false)
+        × AreRulesOf (option_copied users.entry) text.now access.rules
+        × AreLimitsOf text.now access.limits.items)
         (IsAccessFault (option_copied users.entry) text.now) }
 {
     if has_taken_name(users) {
@@ -322,5 +419,6 @@ pub fn read(alloc: Global, text: &[u8], users: Option<&Users>) -> Result<Rules, 
         users,
         lines: &lines,
     };
-    Ok(Rules::new(reader.grants()?))
+    let access = reader.read_lines()?;
+    Ok(access)
 }

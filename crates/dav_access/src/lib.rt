@@ -2,6 +2,7 @@
 //! list of users.
 #![tactic(auto)]
 
+mod amount;
 mod basic;
 mod check;
 mod crypt;
@@ -11,6 +12,7 @@ mod fault;
 pub mod file;
 mod grant;
 pub mod laws;
+mod limit;
 mod line;
 mod logins;
 mod name;
@@ -24,6 +26,7 @@ pub use basic::{Credentials, credentials_of};
 pub use error::{Refusal, UsersError};
 pub use fault::{AccessError, Fault};
 pub use grant::{Grant, Right, Whom};
+pub use limit::{Access, Limit, Measure};
 pub use logins::{Logins, WrongLogin};
 pub use name::Name;
 pub use principal::principal_of;

@@ -20,3 +20,11 @@ pub fn after_front<'t>(text: &'t str, front: &str) -> Option<&'t str>
 {
     text.strip_prefix(front)
 }
+
+// What comes before these bytes, where a text ends with them.
+pub fn before_back<'t>(text: &'t str, back: &str) -> Option<&'t str>
+    ensures { MatchOption result ((front : List ℕ) → text.now ≢ front ++ back.now)
+        (λ front. text.now ≡ front.now ++ back.now) }
+{
+    text.strip_suffix(back)
+}

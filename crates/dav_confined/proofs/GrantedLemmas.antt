@@ -1,13 +1,14 @@
 -- A request with leave keeps off the paths where its principal may not write.
-use Rattle.std.proofs.Common.{◌≡◌, ◌⊎◌, inl, inr, ℕ, Option, Bool, true, false, not, true≢false, List, [], ◌∷◌, All, map, Some, Ok, refl, sym, ap, subst, ◌∙◌, arith}
+use Rattle.std.proofs.Common.{◌≡◌, ◌≢◌, ◌⊎◌, inl, inr, ℕ, Option, Bool, true, false, not, true≢false, List, [], append-nil, ◌∷◌, All, map, Some, Ok, refl, sym, ap, subst, ◌∙◌, arith}
 use Rattle.std.proofs.lemmas.List.Elements.{All-head, All-tail, All-cons}
 use Rattle.dav_core.specs.Path.{Path, PathText, names, is_at_or_under}
 use Rattle.dav_core.specs.declared.method.DavMethod.{DavMethod}
-use Rattle.dav_core.specs.declared.method.DavMethod.TheVariants.{Copy, Unlock, Put, Patch, MkCol, Delete, Move, PropPatch, Lock as LockMethod}
+use Rattle.dav_core.specs.declared.method.DavMethod.TheVariants.{Copy, Unlock, Put, Patch, MkCol, Delete, Move, Options, PropPatch, Lock as LockMethod}
 use Rattle.dav_core.specs.Locks.{Lock}
+use Rattle.dav_engine.proofs.FaultLemmas.{at_path}
 use Rattle.dav_engine.specs.Guard.{folder_of}
 use Rattle.dav_engine.specs.Sparing.{NoneUnder}
-use Rattle.dav_confined.specs.ConfinedSteps.{changes_target, KeepsOff, UnlocksLock}
+use Rattle.dav_confined.specs.ConfinedSteps.{changes_below, changes_target, KeepsOff, UnlocksLock}
 use Rattle.dav_server.specs.Head.{Request}
 use Rattle.dav_server.specs.Holder.{IsRequestTo}
 use Rattle.dav_server.specs.Machine.{Exchange, Settings}
@@ -30,11 +31,15 @@ needs_writes : (m : DavMethod) → changes_target m ≡ true → needed m ≡ Wr
 needs_writes Put is = refl
 needs_writes Patch is = refl
 needs_writes MkCol is = refl
-needs_writes Delete is = refl
-needs_writes Move is = refl
 needs_writes PropPatch is = refl
 needs_writes LockMethod is = refl
 needs_writes _ is = absurd (true≢false (sym is))
+
+-- so does one that changes what is below it too
+below_writes : (m : DavMethod) → changes_below m ≡ true → needed m ≡ Write
+below_writes Delete is = refl
+below_writes Move is = refl
+below_writes _ is = absurd (true≢false (sym is))
 
 module _ (covered : Path → Bool) (rules : Rules) (s : Settings) (x : Exchange) (leave : HasLeave rules s x)
     (outside : (q : Path) → covered q ≡ true → may_write rules x.principal q ≡ false) where
@@ -45,9 +50,13 @@ module _ (covered : Path → Bool) (rules : Rules) (s : Settings) (x : Exchange)
   none_under : (p : Path) → may_write rules x.principal p ≡ true → NoneUnder covered p
   none_under p writes q below = none_by p q writes below (covered q) refl
 
+  writes_at : (r : Request) (m : DavMethod) (p : PathText) → IsRequestTo s x r m p → needed m ≡ Write → (m ≢ Options) → may_write rules x.principal (names p) ≡ true
+  writes_at r m p to writes named = subst (λ right. has_right rules x.principal right (names p) ≡ true) writes (leave.target r m p to (target_is_path to.target named))
+
   pub keeps_off : KeepsOff covered s x
   keeps_off = record {
-    target = λ r m p to changes. none_under (names p) (subst (λ right. has_right rules x.principal right (names p) ≡ true) (needs_writes m changes) (leave.target r m p to (target_is_path to.target (λ e. true≢false (sym changes ∙ ap changes_target e)))));
+    target = λ r m p to changes. none_under (names p) (writes_at r m p to (needs_writes m changes) (λ e. true≢false (sym changes ∙ ap changes_target e))) (names p) (at_path (names p) (names p) [] (sym (append-nil (names p))));
+    below = λ r m p to changes. none_under (names p) (writes_at r m p to (below_writes m changes) (λ e. true≢false (sym changes ∙ ap changes_below e)));
     destination = λ r m p d to is named. none_under (names d) (leave.destination r m p d to is named);
   }
 
@@ -85,6 +94,7 @@ module _ (s : Settings) (x : Exchange) (r : Request) (p : PathText) (to : IsRequ
   keeps_off_all : KeepsOff (λ q. true) s x
   keeps_off_all = record {
     target = λ r' m p' to' changes. absurd (true≢false (sym changes ∙ ap changes_target (unlocks_alone r' m p' to')));
+    below = λ r' m p' to' changes. absurd (true≢false (sym changes ∙ ap changes_below (unlocks_alone r' m p' to')));
     destination = λ r' m p' d to' is named. elim is [
       | inl copy ↦ (let other : Copy ≡ Unlock = sym copy ∙ unlocks_alone r' m p' to' in cc)
       | inr move ↦ (let other : Move ≡ Unlock = sym move ∙ unlocks_alone r' m p' to' in cc)

@@ -98,7 +98,7 @@ module _ (rules : Rules) (s : Settings) (x : Exchange) (a : AskedView) (asked : 
       subst (λ (q : PathText). G r m q) three (subst (λ (n : DavMethod). G r n a.path) two (subst (λ (q : Request). G q a.method a.path) one is))
 
   -- the one path that Destination names
-  place_is : (d : PathText) → DestinationNames a.path.prefix (get_all (headers_of asked.request.fields) (codes "destination")) (Ok d) → a.destination ≡ Some d
+  pub place_is : (d : PathText) → DestinationNames a.path.prefix (get_all (headers_of asked.request.fields) (codes "destination")) (Ok d) → a.destination ≡ Some d
   place_is d named = asked.says.destination ∙ ap result_ok (one_place a.path.prefix (get_all (headers_of asked.request.fields) (codes "destination")) asked.says.named named)
 
   -- the lists that the If says

@@ -1,6 +1,7 @@
 mod ConfinedPlans
 pub mod GrantedLemmas
-mod LeaveLemmas
+pub mod LeaveLemmas
+pub mod ReachedLemmas
 mod ReadingLemmas
 mod SeenGet
 mod SeenLemmas

@@ -1,5 +1,5 @@
 -- What a request changes is at the paths that it names, or below them: from the bytes of its head on.
-use Rattle.std.proofs.Common.{◌≡◌, ◌≢◌, inl, inr, ◌≤◌, Bool, true, false, true≢false, List, [], append-nil, All, Some, None, Ok, refl, sym, subst, ◌∙◌}
+use Rattle.std.proofs.Common.{◌≡◌, ◌≢◌, inl, inr, ◌≤◌, Bool, true, false, true≢false, List, All, Some, None, Ok, refl, sym, subst, ◌∙◌}
 use Rattle.std.proofs.lemmas.List.Elements.{All-head, All-tail}
 use Rattle.dav_core.specs.declared.method.DavMethod.{DavMethod}
 use Rattle.dav_core.specs.declared.method.DavMethod.TheVariants.{Get, Head, Put, Patch, MkCol, Delete, Copy, Move, PropPatch, Lock as LockMethod, Unlock}
@@ -19,8 +19,7 @@ use Rattle.dav_engine.specs.Sparing.{NoneUnder, AnyList, spares_err, Spared}
 use Rattle.dav_confined.specs.Confined.{SparesPaths}
 use Rattle.dav_engine.proofs.Theorems.{kept_locks_stand, options_only_reads, propfind_only_reads, reading_keeps_locks, put_keeps_locks, mkcol_keeps_locks, lock_keeps_locks, proppatch_keeps_locks}
 use Rattle.dav_confined.proofs.ConfinedPlans.{spared_paths_stay, spared_paths_stay_cut, reading_spares_paths, put_spares_others, mkcol_spares_others, proppatch_spares_others, lock_spares_others, unlock_spares_paths, delete_spares_others, copymove_spares_others, delete_keeps_other_locks, copymove_keeps_other_locks, unlock_keeps_other_locks}
-use Rattle.dav_engine.proofs.FaultLemmas.{at_path}
-use Rattle.dav_confined.specs.ConfinedSteps.{changes_target, KeepsOff, UnlocksLock, StepsLeaveOthers, StepsLeaveOthersCut, StepsKeepOtherLocks, RunsLeaveOthers}
+use Rattle.dav_confined.specs.ConfinedSteps.{KeepsOff, UnlocksLock, StepsLeaveOthers, StepsLeaveOthersCut, StepsKeepOtherLocks, RunsLeaveOthers}
 use Rattle.dav_server.specs.Get.{get, is_get}
 use Rattle.dav_server.specs.Head.{Request, IsHead}
 use Rattle.dav_server.specs.Headers.{headers_of}
@@ -42,25 +41,21 @@ apart : (covered : Path → Bool) (p q : Path) → NoneUnder covered p → cover
 apart covered p q none within = apart_by covered p q (is_at_or_under q p) none within refl
 
 module _ (covered : Path → Bool) (s : Settings) (x : Exchange) (off : KeepsOff covered s x) where
-  -- the path itself isn't one of these
-  at_target : (r : Request) (m : DavMethod) (p : PathText) → IsRequestTo s x r m p → changes_target m ≡ true → covered (names p) ≡ false
-  at_target r m p to changes = off.target r m p to changes (names p) (at_path (names p) (names p) [] (sym (append-nil (names p))))
-
   plan_spares : (r : Request) {p : PathText} {body : Body} {m : DavMethod} {plan : MethodPlan Reply} → IsRequestTo s x r m p → PlanOf s.allowed (headers_of r.fields) p body (caller x) m plan → SparesPaths covered plan
   plan_spares r {p = p} to (gets (is_get c are)) = reading_spares_paths covered (get Get c (names p) (caller x).moment) (get_is_reading Get c (names p) (caller x).moment)
   plan_spares r {p = p} to (heads (is_get c are)) = reading_spares_paths covered (get Head c (names p) (caller x).moment) (get_is_reading Head c (names p) (caller x).moment)
-  plan_spares r {p} {body} {plan = plan} to (puts is) = put_spares_others covered Put (headers_of r.fields) p body (caller x) plan (at_target r Put p to refl) is
-  plan_spares r {p} {body} {plan = plan} to (patches is) = put_spares_others covered Patch (headers_of r.fields) p body (caller x) plan (at_target r Patch p to refl) is
-  plan_spares r {p = p} {plan = plan} to (makes is) = mkcol_spares_others covered (headers_of r.fields) p (caller x) plan (at_target r MkCol p to refl) is
-  plan_spares r {p = p} {plan = plan} to (deletes is) = delete_spares_others covered (headers_of r.fields) p (caller x) plan (target_is_path to.target (λ e. cc)) (off.target r Delete p to refl) is
+  plan_spares r {p} {body} {plan = plan} to (puts is) = put_spares_others covered Put (headers_of r.fields) p body (caller x) plan (off.target r Put p to refl) is
+  plan_spares r {p} {body} {plan = plan} to (patches is) = put_spares_others covered Patch (headers_of r.fields) p body (caller x) plan (off.target r Patch p to refl) is
+  plan_spares r {p = p} {plan = plan} to (makes is) = mkcol_spares_others covered (headers_of r.fields) p (caller x) plan (off.target r MkCol p to refl) is
+  plan_spares r {p = p} {plan = plan} to (deletes is) = delete_spares_others covered (headers_of r.fields) p (caller x) plan (target_is_path to.target (λ e. cc)) (off.below r Delete p to refl) is
   plan_spares r {p = p} {plan = plan} to (copies is) =
       copymove_spares_others covered Copy (headers_of r.fields) p (caller x) plan (target_is_path to.target (λ e. cc)) (λ e. cc) (λ d named. off.destination r Copy p d to (inl refl) named) is
   plan_spares r {p = p} {plan = plan} to (moves is) =
-      copymove_spares_others covered Move (headers_of r.fields) p (caller x) plan (target_is_path to.target (λ e. cc)) (λ e. off.target r Move p to refl) (λ d named. off.destination r Move p d to (inr refl) named) is
+      copymove_spares_others covered Move (headers_of r.fields) p (caller x) plan (target_is_path to.target (λ e. cc)) (λ e. off.below r Move p to refl) (λ d named. off.destination r Move p d to (inr refl) named) is
   plan_spares r {p} to offers = reading_spares_paths covered (options s.allowed p) (options_only_reads s.allowed p)
   plan_spares r {p = p} {body} {plan = plan} to (finds_properties is) = reading_spares_paths covered plan (propfind_only_reads (headers_of r.fields) p body (caller x) plan is)
-  plan_spares r {p = p} {body} {plan = plan} to (sets_properties is) = proppatch_spares_others covered (headers_of r.fields) p body (caller x) plan (target_is_path to.target (λ e. cc)) (at_target r PropPatch p to refl) is
-  plan_spares r {p = p} {body} {plan = plan} to (locks is) = lock_spares_others covered (headers_of r.fields) p body (caller x) plan (target_is_path to.target (λ e. cc)) (at_target r LockMethod p to refl) is
+  plan_spares r {p = p} {body} {plan = plan} to (sets_properties is) = proppatch_spares_others covered (headers_of r.fields) p body (caller x) plan (target_is_path to.target (λ e. cc)) (off.target r PropPatch p to refl) is
+  plan_spares r {p = p} {body} {plan = plan} to (locks is) = lock_spares_others covered (headers_of r.fields) p body (caller x) plan (target_is_path to.target (λ e. cc)) (off.target r LockMethod p to refl) is
   plan_spares r {p = p} {plan = plan} to (releases is) = unlock_spares_paths covered (headers_of r.fields) p (caller x) plan is
 
   of_spares : (r : Request) {m : DavMethod} {plan : MethodPlan Reply} → IsHead x.head r → GivesServed r.method (Ok m) → MeansOf s x r m plan → SparesPaths covered plan
@@ -98,11 +93,11 @@ module _ (covered : Path → Bool) (s : Settings) (x : Exchange) (off : KeepsOff
     plan_keeps r {p} {body} {plan = plan} to (puts is) = put_keeps_locks h Put (headers_of r.fields) p body (caller x) plan is
     plan_keeps r {p} {body} {plan = plan} to (patches is) = put_keeps_locks h Patch (headers_of r.fields) p body (caller x) plan is
     plan_keeps r {p = p} {plan = plan} to (makes is) = mkcol_keeps_locks h (headers_of r.fields) p (caller x) plan is
-    plan_keeps r {p = p} {plan = plan} to (deletes is) = delete_keeps_other_locks h (headers_of r.fields) p (caller x) plan (target_is_path to.target (λ e. cc)) (elsewhere p (off.target r Delete p to refl)) is
+    plan_keeps r {p = p} {plan = plan} to (deletes is) = delete_keeps_other_locks h (headers_of r.fields) p (caller x) plan (target_is_path to.target (λ e. cc)) (elsewhere p (off.below r Delete p to refl)) is
     plan_keeps r {p = p} {plan = plan} to (copies is) =
         copymove_keeps_other_locks h Copy (headers_of r.fields) p (caller x) plan (target_is_path to.target (λ e. cc)) (λ e. cc) (λ d named. elsewhere d (off.destination r Copy p d to (inl refl) named)) is
     plan_keeps r {p = p} {plan = plan} to (moves is) =
-        copymove_keeps_other_locks h Move (headers_of r.fields) p (caller x) plan (target_is_path to.target (λ e. cc)) (λ e. elsewhere p (off.target r Move p to refl)) (λ d named. elsewhere d (off.destination r Move p d to (inr refl) named)) is
+        copymove_keeps_other_locks h Move (headers_of r.fields) p (caller x) plan (target_is_path to.target (λ e. cc)) (λ e. elsewhere p (off.below r Move p to refl)) (λ d named. elsewhere d (off.destination r Move p d to (inr refl) named)) is
     plan_keeps r {p} to offers = reading_keeps_locks h (options s.allowed p) (options_only_reads s.allowed p)
     plan_keeps r {p = p} {body} {plan = plan} to (finds_properties is) = reading_keeps_locks h plan (propfind_only_reads (headers_of r.fields) p body (caller x) plan is)
     plan_keeps r {p = p} {body} {plan = plan} to (sets_properties is) = proppatch_keeps_locks h (headers_of r.fields) p body (caller x) plan is

@@ -21,21 +21,26 @@ use Rattle.dav_server.specs.Machine.{Exchange, Settings, Steps, StepCut}
 use Rattle.dav_server.specs.Run.{Turn, Runs}
 use Rattle.dav_server.specs.TagLaws.{MomentsAreDates}
 
--- Whether a method changes what is at its target or below it. COPY changes its destination alone, and UNLOCK no content.
+-- whether a method changes what is at its target alone
 abbrev pub changes_target : DavMethod → Bool
 changes_target Put = true
 changes_target Patch = true
 changes_target MkCol = true
-changes_target Delete = true
-changes_target Move = true
 changes_target PropPatch = true
 changes_target LockMethod = true
 changes_target _ = false
 
--- The request keeps off these paths: none of them is at its target or below it, where its method changes what is there, nor, for COPY
--- and MOVE, at the path that Destination names or below that.
+-- Whether a method changes what is at its target and below it. COPY changes its destination alone, and UNLOCK no content.
+abbrev pub changes_below : DavMethod → Bool
+changes_below Delete = true
+changes_below Move = true
+changes_below _ = false
+
+-- The request keeps off these paths: none of them is its target, where its method changes what is there, nor below it, where its method
+-- changes that too, nor, for COPY and MOVE, at the path that Destination names or below that.
 pub record KeepsOff (covered : Path → Bool) (s : Settings) (x : Exchange) : Type 0 where
-  pub target : (r : Request) (m : DavMethod) (p : PathText) → IsRequestTo s x r m p → changes_target m ≡ true → NoneUnder covered (names p)
+  pub target : (r : Request) (m : DavMethod) (p : PathText) → IsRequestTo s x r m p → changes_target m ≡ true → covered (names p) ≡ false
+  pub below : (r : Request) (m : DavMethod) (p : PathText) → IsRequestTo s x r m p → changes_below m ≡ true → NoneUnder covered (names p)
   pub destination : (r : Request) (m : DavMethod) (p d : PathText) → IsRequestTo s x r m p → (m ≡ Copy) ⊎ (m ≡ Move)
       → DestinationNames p.prefix (get_all (headers_of r.fields) (codes "destination")) (Ok d) → NoneUnder covered (names d)
 

@@ -1,5 +1,6 @@
 pub mod Confined
 pub mod ConfinedSteps
+pub mod Reached
 pub mod Seen
 pub mod SeenSteps
 pub mod Sight

@@ -190,7 +190,7 @@ anna | UNLOCK /dav/shared | Lock-Token -> yes
 
 fn rules_of(alloc: Global) -> Result<Rules, Fail> {
     let users = Users::read(alloc, USERS)?;
-    Ok(file::read(alloc, RULES.as_bytes(), Some(&users))?)
+    Ok(file::read(alloc, RULES.as_bytes(), Some(&users))?.rules)
 }
 
 // A word, where it isn't `-`.

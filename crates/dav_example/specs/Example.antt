@@ -18,6 +18,6 @@ anna = record { principal = Some (codes "anna"); moment = 1000000000; token = No
 -- it is (RFC 9110, section 15.5.1); and the server is as that request leaves it, with room for a million bytes more.
 pub data IsAnswered (old : Server) (head body : List ℕ) (sent : Response) (new : Server) : Type 0 where
   shown : (reply : Reply) (r : Request) → IsStepFor head body anna old reply new → IsHead head r
-      → IsShown r body 1000000000 (room_of new 1000000) reply sent → IsAnswered old head body sent new
+      → IsShown r body 1000000000 (room_of new None 1000000) reply sent → IsAnswered old head body sent new
   headless : (reply : Reply) → IsStepFor head body anna old reply new → ((r : Request) → ¬ IsHead head r) → IsSentAs false reply sent
       → IsAnswered old head body sent new

@@ -43,6 +43,7 @@ fn answer(alloc: Global, server: &mut Handler, head: &[u8], body: Bytes) -> Resu
             let bytes = body.as_slice();
             let store = Store {
                 server,
+                place: None,
                 available: 1_000_000,
             };
             present(

@@ -1,5 +1,5 @@
 mod Each
-mod PlacedLemmas
+pub mod PlacedLemmas
 mod Printed
 mod StoredTrees
 mod PlainWords

@@ -57,13 +57,13 @@ abbrev first_in : Option (ℕ × ℕ) → ℕ
 first_in None = 0
 first_in (Some (first, last)) = first
 
-one_ranged : (values : List FieldValue) (a b : ℕ) → IsRangedFrom values a → IsRangedFrom values b → a ≡ b
+pub one_ranged : (values : List FieldValue) (a b : ℕ) → IsRangedFrom values a → IsRangedFrom values b → a ≡ b
 one_ranged values a b (x, l, one) (y, m, two) =
     let same : ◌≡◌ {A = ContentRange} (record { bounds = Some (a, x); length = l }) (record { bounds = Some (b, y); length = m }) =
     one_content_range values (record { bounds = Some (a, x); length = l }) (record { bounds = Some (b, y); length = m }) one two in
     ap (λ (c : ContentRange). first_in c.bounds) same
 
-one_updated : (values : List FieldValue) (a b : ℕ) → IsUpdatedFrom values a → IsUpdatedFrom values b → a ≡ b
+pub one_updated : (values : List FieldValue) (a b : ℕ) → IsUpdatedFrom values a → IsUpdatedFrom values b → a ≡ b
 one_updated values a b (inl (x, one)) (inl (y, two)) = let same : FromTo a x ≡ FromTo b y = one_update_range values (FromTo a x) (FromTo b y) one two in cc
 one_updated values a b (inl (x, one)) (inr two) = let same : FromTo a x ≡ AllFrom b = one_update_range values (FromTo a x) (AllFrom b) one two in cc
 one_updated values a b (inr one) (inl (y, two)) = let same : AllFrom a ≡ FromTo b y = one_update_range values (AllFrom a) (FromTo b y) one two in cc

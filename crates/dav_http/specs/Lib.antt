@@ -1,3 +1,4 @@
+pub mod Amounts
 pub mod Owners
 pub mod Sent
 pub mod SentLaws

@@ -4,6 +4,7 @@ use Rattle.http_header.specs.FieldValue.{FieldValue}
 use Rattle.http_header.specs.HeaderMap.{get_all}
 use Rattle.dav_headers.specs.ContentRange.{IsContentRange}
 use Rattle.dav_headers.specs.UpdateRange.{IsUpdateRange}
+use Rattle.dav_headers.specs.Value.{Decodes}
 use Rattle.dav_headers.specs.declared.range.XUpdateRange.TheVariants.{AllFrom, FromTo}
 use Rattle.dav_engine.specs.Headers.{Headers}
 use Rattle.dav_server.specs.Head.{Request}
@@ -20,6 +21,11 @@ IsUpdatedFrom values first = ((last : ℕ) × IsUpdateRange values (FromTo first
 -- a request names this byte of its file as the first one that it writes
 abbrev pub NamesFirst : Headers → ℕ → Type 0
 NamesFirst headers first = IsRangedFrom (get_all headers (codes "content-range")) first ⊎ IsUpdatedFrom (get_all headers (codes "x-update-range")) first
+
+-- the first bytes that Content-Range and X-Update-Range name, where they name some
+abbrev pub AreFirsts : Headers → Option ℕ × Option ℕ → Type 0
+AreFirsts headers firsts =
+    Decodes IsRangedFrom (get_all headers (codes "content-range")) firsts.0 × Decodes IsUpdatedFrom (get_all headers (codes "x-update-range")) firsts.1
 
 -- A PUT or PATCH begins to write past so many bytes, so that the file would have more of them, whatever it has now.
 abbrev pub BeginsPast : ℕ → Request → Type 0

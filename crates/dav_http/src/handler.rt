@@ -11,6 +11,7 @@ mod holders;
 mod refused;
 mod saved;
 
+use crate::amount::Amount;
 use crate::head::{Head, takes_tree};
 use crate::owner::with_prefixed_owners;
 use crate::sendable::is_sendable_if_any;
@@ -176,11 +177,12 @@ impl Handler {
     ghost use Rattle.std.specs.Result.{IsErrOf};
     ghost use Rattle.dav_core.specs.Locks.{Lock};
     ghost use Rattle.dav_core.specs.Path.{names};
-    ghost use Rattle.dav_core.specs.World.{is_folder, last_moment};
+    ghost use Rattle.dav_core.specs.World.{IsWorld, is_folder, last_moment, node_at};
     ghost use Rattle.dav_server.specs.Server.{Answers};
     ghost use Rattle.dav_server.specs.Setup.{IsPrefix};
     ghost use Rattle.dav_store.specs.LockEnds.{first_ended};
     ghost use Rattle.dav_store.specs.Used.{used_bytes};
+    ghost use Rattle.dav_http.specs.Amounts.{amount_alone, amount_at};
     ghost use Rattle.dav_http.specs.Leaves.{Leaves};
     ghost use Rattle.dav_http.specs.Sent.{HoldsSendable, IsSendableTextIfAny};
     ghost use Rattle.dav_http.specs.SentLaws.{IsSendableRequest};
@@ -237,6 +239,38 @@ impl Handler {
             (λ used. used ≡ used_bytes self.now.server.state.store.world.nodes) }
     {
         self.handler.fs().used_bytes(alloc)
+    }
+
+    /// How much is at a path and below it: files and folders, and bytes of files, 2^64 - 1 where they are more. Takes time for each node
+    /// there. Nothing changes.
+    pub fn amount_at(&self, alloc: Global, path: &DavPath) -> Result<Amount, NoMemory>
+        ensures { IfOk result (λ amount. amount
+            ≡ amount_at (names path.now) self.now.server.state.store.world.nodes) }
+    {
+        let amount = self.handler.fs().amount_at(alloc, path)?;
+        Ok(Amount {
+            files: amount.files,
+            bytes: amount.bytes,
+        })
+    }
+
+    /// How much is at a path alone: nothing where nothing is, and of a folder it alone. Nothing changes.
+    pub fn amount_alone(&self, path: &DavPath) -> Amount
+        ensures { result
+            ≡ amount_alone (node_at self.now.server.state.store.world (names path.now)) }
+    {
+        let amount = self.handler.fs().amount_alone(path);
+        Amount {
+            files: amount.files,
+            bytes: amount.bytes,
+        }
+    }
+
+    /// What is always true of a server: its store holds a world. It does nothing.
+    pub fn see_world(&self)
+        ensures { IsWorld self.now.server.state.store.world }
+    {
+        let _ = &self.handler;
     }
 
     /// Whether a folder is at a path. Nothing changes.

@@ -5,6 +5,7 @@
 //! part that is run and kept is again a head.
 #![tactic(auto)]
 
+mod amount;
 mod ending;
 mod handler;
 mod head;
@@ -16,10 +17,11 @@ mod response;
 mod sendable;
 mod uploaded;
 
+pub use amount::Amount;
 pub use ending::unlock_head;
 pub use handler::{HandleError, Handler, may_be_refused, method_of};
 pub use head::{Head, is_lock, is_safe, leaves, takes_tree};
-pub use placed::begins_past;
+pub use placed::{begins_past, firsts_in};
 pub use presented::{Store, present};
 pub use response::send;
 pub use sendable::is_sendable_if_any;

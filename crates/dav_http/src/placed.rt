@@ -7,7 +7,8 @@ ghost use Rattle.http_header.specs.FieldValue.{FieldValue};
 ghost use Rattle.dav_headers.specs.ContentRange.{IsContentRange};
 ghost use Rattle.dav_headers.specs.UpdateRange.{IsUpdateRange};
 ghost use Rattle.dav_headers.specs.Value.{Decodes};
-ghost use Rattle.dav_http.specs.Placed.{BeginsPast, IsRangedFrom, IsUpdatedFrom};
+ghost use Rattle.dav_http.specs.Placed.{AreFirsts, BeginsPast, IsRangedFrom, IsUpdatedFrom};
+ghost use Rattle.dav_server.specs.Headers.{headers_of};
 
 use crate::head::Head;
 use dav_core::errors::NoMemory;
@@ -98,6 +99,16 @@ fn writes(method: &[u8]) -> bool
     method == b"PUT".as_slice() || method == b"PATCH".as_slice()
 }
 
+/// The first byte that Content-Range of a head names, and the one that its X-Update-Range does, where they name some.
+pub fn firsts_in(alloc: Global, head: &Head<'_>) -> Result<(Option<u64>, Option<u64>), NoMemory>
+    ensures { IfOk result (AreFirsts (headers_of head.now.fields)) }
+{
+    let headers = headers_of(alloc, head.view())?;
+    let ranged = ranged_from(range_in(alloc, &headers)?);
+    let updated = updated_from(update_in(alloc, &headers)?);
+    Ok((ranged, updated))
+}
+
 /// Whether a request with this head begins to write past so many bytes of its file, by the place that it names: a PUT by
 /// Content-Range, a PATCH by X-Update-Range.
 pub fn begins_past(alloc: Global, head: &Head<'_>, most: u64) -> Result<bool, NoMemory>
@@ -106,8 +117,6 @@ pub fn begins_past(alloc: Global, head: &Head<'_>, most: u64) -> Result<bool, No
     if !writes(head.method()) {
         return Ok(false);
     }
-    let headers = headers_of(alloc, head.view())?;
-    let ranged = ranged_from(range_in(alloc, &headers)?);
-    let updated = updated_from(update_in(alloc, &headers)?);
-    Ok(is_either_past(ranged, updated, most))
+    let firsts = firsts_in(alloc, head)?;
+    Ok(is_either_past(firsts.0, firsts.1, most))
 }

@@ -20,6 +20,7 @@ use crate::presented::preferred::preferred_in;
 use crate::presented::told::{modified_in, tag_in};
 use crate::response::{body_of, send};
 use bytes::Bytes;
+use dav_core::davpath::DavPath;
 use dav_core::element::Element;
 use dav_core::errors::NoMemory;
 use dav_engine::{Reply, ReplyBody};
@@ -92,8 +93,20 @@ fn show_file(
 pub struct Store<'a> {
     /// The server.
     pub server: &'a Handler,
-    /// How many bytes can still be stored (RFC 4331, section 3).
+    /// Where the files are whose bytes count as used: at a path and below it; without one all of them (RFC 4331, section 4).
+    pub place: Option<&'a DavPath>,
+    /// How many bytes can still be stored there (RFC 4331, section 3).
     pub available: u64,
+}
+
+// How many bytes the files have that count as used.
+fn used_in(alloc: Global, store: Store<'_>) -> Result<u64, NoMemory>
+    ensures { IfOk result (λ used. used ≡ (room_in store.entry).used) }
+{
+    match store.place {
+        Some(path) => Ok(store.server.amount_at(alloc, path)?.bytes),
+        None => store.server.used_bytes(alloc),
+    }
 }
 
 // The multistatus in which folders tell the room of a store, where it is asked for.
@@ -109,7 +122,7 @@ fn measured(
         return Ok(told);
     }
     let room = Room {
-        used: store.server.used_bytes(alloc)?,
+        used: used_in(alloc, store)?,
         available: store.available,
     };
     with_quota(alloc, room, propfind, told)

@@ -7,10 +7,12 @@ pub mod ElderPairLemmas
 mod FrontLemmas
 mod GoingLemmas
 mod JournalLemmas
+mod LookLemmas
 mod MarkLemmas
 mod MixedLemmas
 mod OneLemmas
 pub mod PairLemmas
 mod PartLemmas
+mod PassedLemmas
 mod TwiceLemmas
 mod WriteLemmas

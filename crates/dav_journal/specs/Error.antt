@@ -9,4 +9,5 @@ IsNoDamage (errors.Damaged place) = ⊥
 IsNoDamage errors.Io = ⊤
 IsNoDamage errors.NoRoom = ⊤
 IsNoDamage errors.Foreign = ⊤
+IsNoDamage errors.Passed = ⊤
 IsNoDamage errors.Memory = ⊤

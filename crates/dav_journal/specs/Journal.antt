@@ -132,3 +132,14 @@ pub record Stays {D : Type 0} (g : Ghosts D) (old new : Journal D) : Type 0 wher
 -- these are the bytes of a block with this content at the end of a journal, and of the shut gate after it
 abbrev pub IsWrittenBlock : {D : Type 0} → Journal D → List ℕ → List ℕ → Type 0
 IsWrittenBlock j content bytes = bytes ≡ block_bytes j.key j.end content ++ 0 ∷ []
+
+-- a journal only read its disk, and is as it was
+pub record OnlyLooks {D : Type 0} (g : Ghosts D) (old new : Journal D) : Type 0 where
+  pub reads : OnlyReads g old.disk new.disk
+  pub same : new ≡ record old { disk = new.disk }
+
+-- No other opening goes on with the file of a journal: where its blocks end there is no block; and where it has some, the first is there, and
+-- begins with these bytes.
+pub record IsOwn {D : Type 0} (g : Ghosts D) (j : Journal D) (begins : List ℕ) : Type 0 where
+  pub nothing : IsNoBlock j.key (g.seen j.disk) j.end
+  pub first : j.end ≢ 72 → (slice_index (g.seen j.disk) 72 ≡ 1) × Holds (g.seen j.disk) 121 begins

@@ -1,13 +1,13 @@
 -- Two files, of which one counts: what they stand for, and what contracts see of a pair of
 -- journals.
-use Rattle.std.specs.Prelude.{◌≡◌, ◌⊎◌, ℕ, ◌<◌, ◌^◌, List, Option, Some, None, MatchOption, length, [], ◌∷◌, ◌++◌, IsTrue}
+use Rattle.std.specs.Prelude.{◌≡◌, ◌≢◌, ◌⊎◌, ℕ, ◌<◌, ◌^◌, List, Option, Some, None, MatchOption, length, slice_index, [], ◌∷◌, ◌++◌, IsTrue}
 use Rattle.std.specs.Bool.{⊤}
 use Rattle.std.specs.Int.{w64, to_be_bytes}
 use Rattle.sqlite_disk.specs.Disk.{Only}
 use Rattle.sqlite_disk.specs.declared.Disk.{Ghosts}
-use Rattle.dav_journal.specs.Block.{IsBlock, IsNoBlock}
+use Rattle.dav_journal.specs.Block.{AreBlocks, IsBlock, IsNoBlock}
 use Rattle.dav_journal.specs.File.{IsBegun, Recovers}
-use Rattle.dav_journal.specs.Journal.{HasFront, HasRead, IsClean, IsKept, IsReading, OnlyReads, Stays, disk_of, file_of}
+use Rattle.dav_journal.specs.Journal.{HasFront, HasRead, IsClean, IsKept, IsOwn, IsReading, OnlyLooks, OnlyReads, Stays, disk_of, file_of}
 use Rattle.dav_journal.specs.declared.journal.Journal.{Journal}
 use Rattle.dav_journal.specs.declared.pair.Pair.{Pair}
 
@@ -165,3 +165,25 @@ abbrev pub LeavesFormer : {D : Type 0} → Ghosts D → Pair D → List (List �
 LeavesFormer g p former contents =
     (c d : List ℕ) → g.may_leave (disk_of p.counts) c → g.may_leave (disk_of p.spare) d
     → Recovers c former ⊎ PairRecovers c d contents
+
+-- A pair only read the file that counts, and is as it was.
+pub record OnlyLooksPair {D : Type 0} (g : Ghosts D) (old new : Pair D) : Type 0 where
+  pub counts : OnlyLooks g (counting old) (counting new)
+  pub spare : spare_of new ≡ spare_of old
+  pub generation : generation_of new ≡ generation_of old
+
+-- No other opening goes on with the files of a pair: in the one that counts no block is behind those
+-- that the pair knows, and the first one is of the generation that it goes on with.
+abbrev pub IsOwnPair : {D : Type 0} → Ghosts D → Pair D → Type 0
+IsOwnPair g p = IsOwn g p.counts (to_be_bytes w64 p.generation)
+
+-- Another opening went on with the files of a pair: in the one that counts a block is behind those
+-- that the pair knows; or it knows some, and the file has blocks of another generation, or none.
+pub data IsPassed {D : Type 0} (g : Ghosts D) (p : Pair D) : Type 0 where
+  behind : (before more : List (List ℕ)) (opening : List ℕ) (last : ℕ)
+      → AreBlocks p.counts.key (g.seen p.counts.disk) 72 before p.counts.end
+      → AreBlocks p.counts.key (g.seen p.counts.disk) 72 (before ++ opening ∷ more) last
+      → IsPassed g p
+  anew : p.counts.end ≢ 72 → p.generation < 2 ^ 64 → (generation : ℕ) → generation ≢ p.generation
+      → HasGeneration p.counts.key (g.seen p.counts.disk) generation → IsPassed g p
+  cleared : p.counts.end ≢ 72 → slice_index (g.seen p.counts.disk) 72 ≢ 1 → IsPassed g p

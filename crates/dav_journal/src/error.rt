@@ -18,6 +18,9 @@ pub enum JournalError {
     /// No block is at this place, and one was.
     #[error("Damaged")]
     Damaged(usize),
+    /// Another opening came after this one, and went on with the files.
+    #[error("Passed")]
+    Passed,
     /// Memory ran out.
     #[error("Memory")]
     Memory,

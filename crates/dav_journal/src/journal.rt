@@ -14,6 +14,7 @@ mod cutting;
 mod elder;
 mod keeping;
 mod leaving;
+mod looking;
 mod marks;
 mod reading;
 #[cfg(test)]

@@ -5,7 +5,7 @@ ghost use Rattle.sqlite_disk.specs.Disk.{Holds};
 ghost use Rattle.dav_journal.specs.File.{Recovers};
 ghost use Rattle.dav_journal.specs.declared.error.JournalError.TheVariants.{Damaged};
 ghost use Rattle.dav_journal.specs.Journal.{HasRead, IsClean, IsReading, OnlyReads, blocks_end, blocks_len, disk_of, file_of};
-ghost use Rattle.dav_journal.specs.Pair.{HasFirst, HasReadPair, IsCleanPair, IsKeptPair, IsMixingPair, IsReadingPair, OnlyReadsPair, PairLeaves, PairLeavesOnly, PairRecovers, PairStandsFor, StaysPair, WereOpened, counting, generation_of, spare_of};
+ghost use Rattle.dav_journal.specs.Pair.{HasFirst, HasReadPair, IsCleanPair, IsKeptPair, IsMixingPair, IsOwnPair, IsPassed, IsReadingPair, OnlyReadsPair, PairLeaves, PairLeavesOnly, PairRecovers, PairStandsFor, StaysPair, WereOpened, counting, generation_of, spare_of};
 
 mod adopting;
 mod elder;
@@ -86,6 +86,12 @@ pub fn pair_stands_for_one_list()
         → PairRecovers file other xs → PairRecovers file other ys → xs ≡ ys }
     ensures either { (file other : List ℕ) (xs : List (List ℕ))
         → PairRecovers file other xs → PairRecovers other file xs }
+{}
+
+/// Where another opening went on with the files of a pair, they are its own no more: so it keeps
+/// nothing behind that, and begins nothing anew (`own` of `keep` and `renew`).
+pub fn what_was_passed_is_not_own<D: Disk + Drop>(pair: &Pair<D>)
+    ensures { IsPassed D.Disk pair.now → IsOwnPair D.Disk pair.now → ⊥ }
 {}
 
 /// What was read of a pair is what its files stand for, if they stand for anything.

@@ -11,10 +11,11 @@ abbrev pub of_handler : HandleError → KeptError
 of_handler handler.Memory = kept.Memory
 of_handler handler.Malformed = kept.Malformed
 
--- a journal's error: a full disk is a disk that failed
+-- a journal's error: a full disk is a disk that failed, and so is one that another opening went on with
 abbrev pub of_journal : JournalError → KeptError
 of_journal journal.Io = kept.Disk
 of_journal journal.NoRoom = kept.Disk
 of_journal journal.Foreign = kept.Foreign
+of_journal journal.Passed = kept.Disk
 of_journal (journal.Damaged place) = kept.Damaged place
 of_journal journal.Memory = kept.Memory

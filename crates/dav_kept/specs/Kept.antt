@@ -1,5 +1,5 @@
 -- The state that the records of a journal make, and what a server keeps.
-use Rattle.std.specs.Prelude.{◌≡◌, ℕ, ◌+◌, max, Bool, true, false, Option, Some, None, List, [], ◌∷◌, ◌++◌, All}
+use Rattle.std.specs.Prelude.{◌≡◌, ◌⊎◌, ℕ, suc, ◌+◌, ◌≤◌, max, Bool, true, false, Option, Some, None, List, [], ◌∷◌, ◌++◌, All}
 use Rattle.std.specs.Int.{w64, to_be_bytes}
 use Rattle.std.specs.List.{concat}
 use Rattle.http_server.specs.declared.response.Response.{Response}
@@ -175,3 +175,21 @@ pub record StaysAsKept {H J : Type 0} (old new : Kept H J) : Type 0 where
   pub batch : (held_by new).batch ≡ (held_by old).batch
   pub preface : preface_of new ≡ preface_of old
   pub novelty : is_new new ≡ is_new old
+
+-- how many quiet moments in a row it let pass
+abbrev pub quiet_of : {H J : Type 0} → Kept H J → ℕ
+quiet_of k = k.quiet
+
+-- the most that it lets pass in a row
+abbrev pub beat : ℕ
+beat = 4
+
+-- In a quiet moment a server sees that no other opening went on with its journal, and that its disk
+-- still keeps what it is told; or it lets the moment pass, as one of so many in a row.
+abbrev pub IsBeat : {H J : Type 0} → (J → Type 0) → (J → Type 0) → (J → Type 0) → Kept H J
+    → Kept H J → Type 0
+IsBeat is_clean is_own is_synced old new =
+    ((is_clean (journal_of new) → is_own (journal_of old)) × is_synced (journal_of new)
+    × (quiet_of new ≡ 0))
+    ⊎ ((journal_of new ≡ journal_of old) × (quiet_of new ≡ suc (quiet_of old))
+    × (quiet_of new ≤ beat))

@@ -47,7 +47,7 @@ pub enum KeptError {
     /// Memory ran out.
     #[error("Memory")]
     Memory,
-    /// The disk failed or is full.
+    /// The disk failed or is full, or another opening went on with the journal.
     #[error("Disk")]
     Disk,
     /// The file isn't a journal of this version.
@@ -112,7 +112,7 @@ impl From<JournalError> for KeptError {
 
     fn from(error: JournalError) -> KeptError {
         match error {
-            JournalError::Io | JournalError::NoRoom => KeptError::Disk,
+            JournalError::Io | JournalError::NoRoom | JournalError::Passed => KeptError::Disk,
             JournalError::Foreign => KeptError::Foreign,
             JournalError::Damaged(place) => KeptError::Damaged(place),
             JournalError::Memory => KeptError::Memory,

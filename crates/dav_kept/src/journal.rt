@@ -23,6 +23,12 @@ pub trait Keeps {
     // and no others.
     ghost leaves: { Self → List (List ℕ) → List (List ℕ) → Type 0 };
 
+    // Whatever a crash leaves, its blocks are as they read.
+    ghost is_synced: { Self → Type 0 };
+
+    // No other opening went on with what its blocks are on.
+    ghost is_own: { Self → Type 0 };
+
     // Where in its file the blocks that were read end.
     ghost ends_at: { Self → ℕ };
 
@@ -66,9 +72,11 @@ pub trait Keeps {
         ensures clean { is_clean self.new → is_clean self.old }
         ensures kept { (blocks : List (List ℕ)) → kept self.old blocks → kept self.new blocks };
 
-    /// Keeps a block after the others. After an error, but for `Memory`, nothing more may be asked.
+    /// Keeps a block after the others, where no other opening went on with them. After an error, but for
+    /// `Memory`, nothing more may be asked.
     fn keep(&mut self, alloc: Global, block: &[u8]) -> Result<(), KeptError>
         ensures clean { is_clean self.new → is_clean self.old }
+        ensures own { OnOk result (is_clean self.new → is_own self.old) }
         ensures kept { OnOk result ((blocks : List (List ℕ)) → kept self.old blocks
             → kept self.new (blocks ++ block.now ∷ [])) }
         ensures any_moment { (blocks : List (List ℕ)) → kept self.old blocks
@@ -79,18 +87,22 @@ pub trait Keeps {
         ensures clean { is_clean self.new → is_clean self.old }
         ensures kept { (blocks : List (List ℕ)) → kept self.old blocks → kept self.new blocks };
 
-    /// Begins anew: this block takes the place of all that are kept. After an error nothing more
-    /// may be asked.
+    /// Begins anew, as far as no other opening went on: this block takes the place of all that are
+    /// kept. After an error nothing more may be asked.
     fn renew(&mut self, alloc: Global, block: &[u8]) -> Result<(), KeptError>
         ensures clean { is_clean self.new → is_clean self.old }
+        ensures own { OnOk result (is_clean self.new → is_own self.old) }
         ensures kept { OnOk result (is_clean self.new → (blocks : List (List ℕ))
             → kept self.old blocks → kept self.new (block.now ∷ [])) }
         ensures any_moment { is_clean self.new → (blocks : List (List ℕ)) → kept self.old blocks
             → leaves self.new blocks (block.now ∷ []) };
 
-    /// Makes sure that the loss of the last block would be seen.
+    /// Sees that no other opening went on, and makes sure that the loss of the last block would be
+    /// seen.
     fn keep_mark(&mut self) -> Result<(), KeptError>
         ensures clean { is_clean self.new → is_clean self.old }
+        ensures own { OnOk result (is_clean self.new → is_own self.old) }
+        ensures synced { OnOk result (is_synced self.new) }
         ensures kept { OnOk result ((blocks : List (List ℕ)) → kept self.old blocks
             → kept self.new blocks) }
         ensures any_moment { (blocks : List (List ℕ)) → kept self.old blocks

@@ -4,7 +4,7 @@ ghost use Rattle.std.specs.List.{concat};
 ghost use Rattle.http_server.specs.declared.response.Response.{Response};
 ghost use Rattle.http_server.specs.Response.{IsBlank};
 ghost use Rattle.dav_kept.specs.Records.{IsRecord, record_bytes, token_count};
-ghost use Rattle.dav_kept.specs.Kept.{Begins, IsAnswerOf, RecordsFollow, IsRunOf, PlaysRecords, Snapshot, StaysAsKept, StaysInJournal, after, committed, first_block, first_day, held_by, is_new, journal_of, preface_of, snapshot_bytes, snapshot_of, answer_step, base_of, with_batch, with_count, with_first, with_snapshot};
+ghost use Rattle.dav_kept.specs.Kept.{Begins, IsAnswerOf, IsBeat, RecordsFollow, IsRunOf, PlaysRecords, Snapshot, StaysAsKept, StaysInJournal, after, committed, first_block, first_day, held_by, is_new, journal_of, preface_of, snapshot_bytes, snapshot_of, answer_step, base_of, with_batch, with_count, with_first, with_snapshot};
 ghost use Rattle.dav_kept.specs.declared.handler.Effect.TheVariants.{Changed};
 
 mod saving;
@@ -17,6 +17,12 @@ use crate::record::Request;
 use http_server::Response;
 pub use saving::{is_due, plain_block};
 use std::alloc::Global;
+
+/// At most so many quiet moments in a row pass without a look at the journal.
+const BEAT: u64 = 4;
+
+// A batch keeps so much room at most.
+const ROOM: usize = 1_048_576;
 
 /// A handler and its journal: the handler's state is that of the run of the records in the
 /// journal's blocks and in the batch, from the state that the journal begins with.
@@ -34,6 +40,8 @@ pub struct Kept<H, J> {
     base: usize,
     /// Whether the loss of its last block would be seen.
     is_marked: bool,
+    /// How many quiet moments in a row passed without a look at the journal.
+    quiet: u64,
     /// The records since the last commit.
     batch: Vec<u8>,
     /// How many of all records have a token.
@@ -72,6 +80,7 @@ impl<H: Handles + Drop, J: Keeps + Drop> Kept<H, J> {
             is_new: true,
             base: 0,
             is_marked: false,
+            quiet: 0,
             batch: Vec::new(alloc),
             tokens: 0,
             latest: 0,
@@ -255,13 +264,15 @@ impl<H: Handles + Drop, J: Keeps + Drop> Kept<H, J> {
     }
 
     /// Keeps the batch as one block; where it is empty there is nothing to keep. At `Ok` each
-    /// request that was answered is kept.
+    /// request that was answered is kept, and no other opening had gone on with the journal.
     pub fn commit(&mut self) -> Result<(), KeptError>
         ensures held { OnOk result (held_by self.new ≡ committed (held_by self.old)) }
         ensures stays { StaysInJournal self.old self.new }
         ensures clean { J.is_clean (journal_of self.new) → J.is_clean (journal_of self.old) }
         ensures kept { OnOk result ((blocks : List (List ℕ)) → J.kept (journal_of self.old) blocks
             → J.kept (journal_of self.new) (with_batch blocks (held_by self.old).batch)) }
+        ensures own { OnOk result ((held_by self.old).batch ≢ []
+            → J.is_clean (journal_of self.new) → J.is_own (journal_of self.old)) }
         ensures nothing { (held_by self.old).batch ≡ []
             → journal_of self.new ≡ journal_of self.old }
         ensures any_moment { (held_by self.old).batch ≢ [] → (blocks : List (List ℕ))
@@ -272,24 +283,29 @@ impl<H: Handles + Drop, J: Keeps + Drop> Kept<H, J> {
             return Ok(());
         }
         self.journal.keep(self.alloc, &self.batch)?;
-        self.batch.clear();
+        empty(self.alloc, &mut self.batch);
         self.is_marked = false;
         Ok(())
     }
 
-    /// Makes sure, in a quiet moment, that the loss of what was committed would be seen.
+    /// Makes sure, in a quiet moment, that the loss of what was committed would be seen; and in each
+    /// fifth one without that sees whether another opening went on with the journal, and whether its
+    /// disk still keeps what it is told.
     pub fn keep_mark(&mut self) -> Result<(), KeptError>
         ensures held { held_by self.new ≡ held_by self.old }
         ensures stays { StaysInJournal self.old self.new }
         ensures clean { J.is_clean (journal_of self.new) → J.is_clean (journal_of self.old) }
         ensures kept { OnOk result ((blocks : List (List ℕ)) → J.kept (journal_of self.old) blocks
             → J.kept (journal_of self.new) blocks) }
+        ensures beat { OnOk result (IsBeat J.is_clean J.is_own J.is_synced self.old self.new) }
     {
-        if self.is_marked {
+        if self.is_marked && self.quiet < BEAT {
+            self.quiet += 1;
             return Ok(());
         }
         self.journal.keep_mark()?;
         self.is_marked = true;
+        self.quiet = 0;
         Ok(())
     }
 
@@ -336,5 +352,16 @@ impl<H: Handles + Drop, J: Keeps + Drop> Kept<H, J> {
         ensures { result.now ≡ (held_by self.now).state }
     {
         &self.handler
+    }
+}
+
+// Empties a batch, and gives back the room of a large one.
+fn empty(alloc: Global, batch: &mut Vec<u8>)
+    ensures { batch.new.items ≡ [] }
+{
+    if batch.capacity() > ROOM {
+        *batch = Vec::new(alloc);
+    } else {
+        batch.clear();
     }
 }

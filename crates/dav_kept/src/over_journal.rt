@@ -1,6 +1,6 @@
 //! A pair of journals of dav_journal keeps blocks.
-ghost use Rattle.dav_journal.specs.Journal.{blocks_end, file_of};
-ghost use Rattle.dav_journal.specs.Pair.{HasReadPair, IsCleanPair, IsKeptPair, IsReadingPair, PairLeaves, counting};
+ghost use Rattle.dav_journal.specs.Journal.{IsSynced, blocks_end, file_of};
+ghost use Rattle.dav_journal.specs.Pair.{HasReadPair, IsCleanPair, IsKeptPair, IsOwnPair, IsReadingPair, PairLeaves, counting};
 ghost use Rattle.sqlite_disk.specs.Disk.{Holds};
 ghost use Rattle.dav_journal.proofs.BlockLemmas.{rests_recovers};
 ghost use Rattle.dav_journal.proofs.PairLemmas.{pair_alone};
@@ -20,6 +20,10 @@ impl<D: Disk + Drop> Keeps for Pair<D> {
     ghost has_read = { λ p blocks. HasReadPair D.Disk p blocks };
 
     ghost kept = { λ p blocks. IsKeptPair D.Disk p blocks };
+
+    ghost is_synced = { λ p. IsSynced D.Disk (counting p) };
+
+    ghost is_own = { λ p. IsOwnPair D.Disk p };
 
     ghost ends_at = { λ p. blocks_end (counting p) };
 

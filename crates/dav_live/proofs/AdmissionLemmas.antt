@@ -29,10 +29,10 @@ use Rattle.dav_live.specs.declared.admission.RefusedRequest.{RefusedRequest}
 
 module _ (a : AdmissionView) (tokens : ℕ) (came : Request) (bytes : List ℕ) (d : Decision) where
   pub turned_away : (x : RefusedRequest) (reason : Reason) (user : List ℕ) → d ≡ Refused x → x.reason ≡ reason → string_bytes x.user ≡ user
-      → IsTurnedAway a came reason user → IsDecision a tokens came bytes d
+      → IsTurnedAway a came bytes reason user → IsDecision a tokens came bytes d
   turned_away x reason user e reason_is user_is away =
       subst (IsDecision a tokens came bytes) (sym e)
-      (subst (λ (r : Reason). IsTurnedAway a came r (string_bytes x.user)) (sym reason_is) (subst (IsTurnedAway a came reason) (sym user_is) away))
+      (subst (λ (r : Reason). IsTurnedAway a came bytes r (string_bytes x.user)) (sym reason_is) (subst (IsTurnedAway a came bytes reason) (sym user_is) away))
 
   pub for_another : (x : RefusedRequest) (hosts : List (List ℕ)) → a.hosts ≡ hosts → d ≡ Refused x → x.reason ≡ Misdirected → string_bytes x.user ≡ []
       → TellsFor hosts (value_of (codes "host") came) false → IsDecision a tokens came bytes d

@@ -1,5 +1,5 @@
 -- The moment of a report.
-use Rattle.std.proofs.Common.{ℕ, ◌+◌, ◌-◌, ◌*◌, ◌/◌, ◌≤◌, arith}
+use Rattle.std.proofs.Common.{arith}
 use Rattle.dav_live.specs.Clock.{ClocksDontJump}
 
 pub clocks_dont_jump : ClocksDontJump

@@ -1,5 +1,5 @@
 -- What is opened of a journal in which nothing was kept is the run of no records.
-use Rattle.std.proofs.Common.{◌≡◌, ◌⊎◌, ℕ, ◌+◌, max, List, [], ◌++◌, Option, None, sym, ap, subst, ◌∙◌, inl, inr}
+use Rattle.std.proofs.Common.{◌≡◌, ℕ, ◌+◌, max, List, [], ◌++◌, Option, None, sym, ap, subst, ◌∙◌, inl, inr}
 use Rattle.std.proofs.lemmas.List.Elements.{All-nil}
 use Rattle.http_server.specs.declared.response.Response.{Response}
 use Rattle.dav_kept.specs.Kept.{Holding, IsRunOf, LoadsWhatWasSaved, PlaysRecords, RecordsRun, Snapshot, answer_step, first_day, held_by, is_new}

@@ -1,5 +1,5 @@
 -- A live server leaves the content at paths where nobody who makes a request may write.
-use Rattle.std.proofs.Common.{◌≡◌, ◌≤◌, ◌⊎◌, inl, inr, ℕ, Bool, true, false, IfSome, List, [], ◌∷◌, Option, Some, None, refl, sym, ap, subst, ◌∙◌, arith}
+use Rattle.std.proofs.Common.{◌≡◌, ◌≤◌, inl, inr, ℕ, Bool, false, IfSome, List, [], ◌∷◌, Option, Some, None, refl, sym, ap, subst, ◌∙◌, arith}
 use Rattle.http_server.specs.declared.response.Response.{Response}
 use Rattle.sqlite_disk.specs.declared.Disk.{Ghosts}
 use Rattle.dav_access.specs.Logins.{LoginsView}
@@ -9,17 +9,15 @@ use Rattle.dav_confined.specs.Leave.{HasLeave, Permits}
 use Rattle.dav_confined.specs.Seen.{AgreeAt, CoverAlike}
 use Rattle.dav_confined.proofs.GrantedLemmas.{answers_stay_in_grants, keeps_off}
 use Rattle.dav_confined.proofs.StepsConfined.{spared_on, step_spares}
-use Rattle.dav_core.specs.Asking.{StoreState}
 use Rattle.dav_core.specs.Locks.{Lock}
 use Rattle.dav_core.specs.Path.{Path}
-use Rattle.dav_core.specs.World.{IsWorld, World, last_moment}
+use Rattle.dav_core.specs.World.{IsWorld, last_moment}
 use Rattle.dav_core.proofs.Theorems.{empty_is_world}
 use Rattle.dav_engine.specs.Guard.{OnList}
 use Rattle.dav_engine.specs.Plan.{Locks}
 use Rattle.dav_engine.specs.Reply.{Reply}
 use Rattle.dav_engine.specs.Sparing.{AnyList, Spared}
-use Rattle.dav_http.specs.Ending.{IsUnlockHead}
-use Rattle.dav_http.specs.Steps.{IsExchangeOf, IsStepFor, new_server}
+use Rattle.dav_http.specs.Steps.{IsStepFor, new_server}
 use Rattle.dav_http.specs.Uploaded.{time_body, time_head}
 use Rattle.dav_http.proofs.OneAnswer.{one_exchange}
 use Rattle.dav_journal.specs.Pair.{IsCleanPair, IsKeptPair}
@@ -32,17 +30,12 @@ use Rattle.dav_server.specs.Head.{IsHead, Request}
 use Rattle.dav_server.specs.Machine.{Exchange, Settings, Steps}
 use Rattle.dav_server.specs.Server.{Server}
 use Rattle.dav_server.proofs.MeansWorld.{step_keeps}
-use Rattle.dav_turns.specs.Connections.{TurnsView}
-use Rattle.dav_turns.specs.Frames.{Order}
-use Rattle.dav_turns.specs.Turns.{Turn, keeping}
 use Rattle.dav_turns.proofs.Carried.{Carries, turn_carries}
 use Rattle.dav_wire.specs.declared.answer.Asked.{Asked}
-use Rattle.dav_wire.specs.declared.answer.Rejection.{Rejection}
 use Rattle.dav_live.specs.Admission.{AdmissionView, HasLeaveIn, IsLetIn, IsRequestOf}
 use Rattle.dav_live.specs.Answers.{IsAnswer, IsLook, IsNextEnd, IsNotRun, caller_of}
-use Rattle.dav_live.specs.Granted.{AreAlikeAt, IsKeptOut, IsSound, LivesAreSound, RepliesStayInGrants, TurnsStayInGrants, TurnsStaySound, doing_elsewhere, world_of}
+use Rattle.dav_live.specs.Granted.{IsKeptOut, IsSound, LivesAreSound, RepliesStayInGrants, TurnsStayInGrants, TurnsStaySound, doing_elsewhere, world_of}
 use Rattle.dav_live.specs.LiveRun.{doing}
-use Rattle.dav_live.specs.Runs.{Commits, Saves, StaysKept}
 use Rattle.dav_live.specs.Serving.{EndsLocks, IsCommitted, IsEnded, IsGreeted, IsListed, IsMarked, IsPassed, IsReplyTo, IsResponseTo, IsRun, IsRunWhole, IsTimed, Serves, StaysAll, admission_of, all, anew, answered, belonging_to, full, headless, heard, held_of, kept_of, logins_of, no_head, none, not_run, one, own_request, refused, run, shown_way, stuck, told, told_to_wait, turned_away, untold, without_leave}
 use Rattle.dav_live.specs.declared.service.Service.{Service}
 use Rattle.dav_live.proofs.MachineRuns.{step_of}
@@ -167,7 +160,7 @@ kept_off covered a s asked prefix (rules, some, out) r user head is let_in leave
 
 -- no request is of none of no paths
 off_nothing : (a : AdmissionView) (s : Settings) (asked : Asked) → AllOff (λ q. false) a s asked
-off_nothing a s asked r user head is let_in leave x at who = record { target = λ q m p to changes k below. refl; destination = λ q m p d to copies named k below. refl }
+off_nothing a s asked r user head is let_in leave x at who = record { target = λ q m p to changes. refl; below = λ q m p to changes k below. refl; destination = λ q m p d to copies named k below. refl }
 
 -- ---- through a turn
 
@@ -206,7 +199,7 @@ module _ {D : Type 0} (g : Ghosts D) (covered : Path → Bool) where
   greeted old new bytes both = still old new (state_of (kept_of old) (kept_of new) both.1) (ap (λ (a : AdmissionView). a.prefix) both.0)
 
   listed : (old new : S) (bytes : List ℕ) → IsListed old bytes new → Keeps old new
-  listed old new bytes (anew users rules reported admission same logins) = still old new (state_of (kept_of old) (kept_of new) same) (ap (λ (a : AdmissionView). a.prefix) admission)
+  listed old new bytes (anew users rules limits reported admission same logins) = still old new (state_of (kept_of old) (kept_of new) same) (ap (λ (a : AdmissionView). a.prefix) admission)
   listed old new bytes (refused fault faulty both logins) = stays old new both
 
   passed : (old new : S) (seconds date : ℕ)
@@ -286,7 +279,7 @@ turns_stay_sound g reports used slots left old new orders turn sound =
 -- ---- a life
 
 nothing_off : (s : Settings) (q : RequestView) → Off (λ p. false) s q
-nothing_off s q x at who = record { target = λ r m p to changes k below. refl; destination = λ r m p d to copies named k below. refl }
+nothing_off s q x at who = record { target = λ r m p to changes. refl; below = λ r m p to changes k below. refl; destination = λ r m p d to copies named k below. refl }
 
 lives_lead : (first last : Server) (records : List RecordView) → RecordsRun (answer_step IsAnswer) first records last → IsGood first → Leads (λ p. false) first last
 lives_lead first last [] same good = leads_same (λ p. false) first last same good

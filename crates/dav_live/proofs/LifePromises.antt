@@ -1,15 +1,14 @@
 -- A live server keeps the promises and the headline over its whole life.
-use Rattle.std.proofs.Common.{◌≡◌, ◌≢◌, ℕ, ◌+◌, ◌≤◌, ◌<◌, Bool, true, List, [], ◌∷◌, Option, Some, None, refl, sym, ap, ◌∙◌, subst, arith}
+use Rattle.std.proofs.Common.{◌≡◌, ◌≢◌, ℕ, ◌+◌, ◌≤◌, true, List, [], ◌∷◌, Option, Some, None, refl, sym, ◌∙◌, subst, arith}
 use Rattle.std.specs.List.{All, AllPairs}
 use Rattle.std.specs.Option.{is_some}
 use Rattle.std.proofs.lemmas.List.Elements.{All-nil, All-cons}
 use Rattle.std.proofs.lemmas.List.Kept.{AllPairs-cons}
-use Rattle.http_server.specs.declared.response.Response.{Response}
 use Rattle.dav_core.specs.World.{last_moment}
 use Rattle.dav_engine.specs.Reply.{Reply}
 use Rattle.dav_http.specs.Steps.{IsStepFor, IsTokenOf, granted, missing, new_server, refused}
 use Rattle.dav_kept.specs.Kept.{RecordsRun, answer_step}
-use Rattle.dav_kept.specs.Records.{RecordView, RequestView, token_count}
+use Rattle.dav_kept.specs.Records.{RecordView, token_count}
 use Rattle.dav_server.specs.Isolation.{AreLoaded, TokensDiffer}
 use Rattle.dav_server.specs.Machine.{Settings}
 use Rattle.dav_server.specs.Run.{Runs, Turn, no_more, one_more}
@@ -17,7 +16,7 @@ use Rattle.dav_server.specs.Server.{AnswersAll, Server}
 use Rattle.dav_server.specs.TagLaws.{MomentsAreDates}
 use Rattle.dav_server.proofs.HeadlineLemmas.{headline_holds}
 use Rattle.dav_server.proofs.PromiseLemmas.{runs_promise}
-use Rattle.dav_live.specs.Answers.{IsAnswer, caller_of, replied, shown}
+use Rattle.dav_live.specs.Answers.{IsAnswer, caller_of}
 use Rattle.dav_live.specs.LifePromises.{AreTurnsOf, IsTurnOf, LivesKeepPromises}
 use Rattle.dav_live.specs.Numbered.{AreNumbered, HasNumber}
 use Rattle.dav_live.specs.Tokens.{token_text}

@@ -1,9 +1,8 @@
 -- The texts of a report of users and rules.
-use Rattle.std.proofs.Common.{◌≡◌, ◌≢◌, ◌==◌, ◌<◌, ◌+◌, ℕ, Bool, true, false, List, Contains, length, get_or, Option, Some, None, Result, Err, inl, inr, refl, sym, ap, subst, ◌∙◌, arith, true≢false, drop, take}
+use Rattle.std.proofs.Common.{◌≡◌, ◌==◌, ◌<◌, ◌+◌, ℕ, Bool, false, List, length, get_or, Some, None, sym, ap, subst, ◌∙◌, arith, drop, take}
 use Rattle.std.specs.List.{position, position_or_len}
 use Rattle.std.proofs.lemmas.List.Sums.{fails_before_first}
 use Rattle.std.proofs.lemmas.Grind.{common_steps}
-use Rattle.dav_access.specs.Texts.{IsSplit}
 use Rattle.dav_live.specs.Lists.{AreTexts, alone, both, text_if_any}
 
 abbrev is_zero : ℕ → Bool

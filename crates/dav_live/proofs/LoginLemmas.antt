@@ -6,6 +6,7 @@ use Rattle.http_server.specs.declared.response.Response.{Response}
 use Rattle.dav_access.specs.Basic.{IsBasic}
 use Rattle.dav_access.specs.Logins.{LoginsView, after_right, after_wrong, wait_of}
 use Rattle.dav_access.specs.Rules.{Rules}
+use Rattle.dav_access.specs.declared.limit.Limit.{Limit}
 use Rattle.dav_access.specs.declared.basic.Credentials.{Credentials}
 use Rattle.dav_access.proofs.BasicLemmas.{basic_once}
 use Rattle.dav_kept.specs.Kept.{Holding}
@@ -17,7 +18,7 @@ use Rattle.dav_wire.specs.declared.answer.Rejection.TheVariants.{Unauthorized, F
 use Rattle.dav_live.specs.Admission.{AdmissionView}
 use Rattle.dav_live.specs.Hosts.{value_of}
 use Rattle.dav_live.specs.Serving.{IsReplyTo, IsResponseTo, heard, told_to_wait}
-use Rattle.dav_live.specs.Waiting.{HasToWait, IsAfterLogin, IsAfterVerdict, MayBeHeard, ShowsLogin, judged_else, judged_nobody, judged_wrong, seconds_of, showed_none, wait_fields, was_misdirected, was_right, was_wrong}
+use Rattle.dav_live.specs.Waiting.{IsAfterLogin, IsAfterVerdict, MayBeHeard, ShowsLogin, judged_else, judged_nobody, judged_wrong, seconds_of, showed_none, wait_fields, was_misdirected, was_right, was_wrong}
 
 -- the value of the field is one
 pub shown_is : (a : AdmissionView) (r : Request) (value name password : List ℕ) → value_of (codes "authorization") r ≡ Some value
@@ -76,7 +77,7 @@ seen_login a l r status after name password shows wrong right other =
       ]
     ]
 
-module _ {S : Type 0} (answers : S → RequestView → Response → S → Type 0) (refuses : Option Rules → S → Request → RequestView → ℕ → Type 0) (looks : Rules → S → RequestView → Response → Type 0)
+module _ {S : Type 0} (answers : S → RequestView → Response → S → Type 0) (refuses : Option Rules → List Limit → S → Request → RequestView → ℕ → Type 0) (looks : Rules → S → RequestView → Response → Type 0)
     (a : AdmissionView) (l : LoginsView) (old : Holding S) (asked : Asked) (r : Request) (is : IsHead asked.head r) (own : Response) (new : Holding S) (after : LoginsView) where
   -- a request that shows no login is heard
   pub replied_bare : ((name password : List ℕ) → ¬ ShowsLogin a r name password) → IsResponseTo answers refuses looks a old asked own new → after ≡ l

@@ -1,5 +1,5 @@
 -- What the answer of a machine is, by its parts.
-use Rattle.std.proofs.Common.{Bool, IfOk, OnOk, Result, Ok, Err, true, false, not, true≢false, codes, ◌≢◌, ◌≡◌, ◌⊎◌, inl, inr, ℕ, List, Option, Some, None, ap, refl, subst, sym, ◌∙◌}
+use Rattle.std.proofs.Common.{Bool, IfOk, OnOk, Result, Ok, Err, true, false, not, true≢false, codes, ◌≢◌, ◌≡◌, ◌⊎◌, inl, inr, ℕ, List, Option, Some, None, ap, refl, length, subst, sym, ◌∙◌}
 use Rattle.std.specs.Bool.{Decides}
 use Rattle.http_server.specs.declared.response.Response.{Response}
 use Rattle.dav_core.specs.declared.method.DavMethod.TheVariants.{Get, Head}
@@ -12,14 +12,16 @@ use Rattle.dav_server.proofs.HeadLemmas.{one_head}
 use Rattle.dav_http.specs.Leaves.{Leaves, reading}
 use Rattle.dav_http.specs.Steps.{IsStepFor}
 use Rattle.dav_access.specs.Rules.{Rules}
+use Rattle.dav_access.specs.declared.limit.Limit.{Limit}
 use Rattle.dav_confined.specs.Leave.{MayUnlock}
 use Rattle.dav_kept.specs.Records.{RequestView}
 use Rattle.dav_http.specs.Kept.{IsKeptOf, depthless, lock, other}
 use Rattle.dav_http.specs.Refused.{MayBeRefused, Refuses, Tells}
 use Rattle.dav_http.proofs.RefusedLemmas.{may_be_refused, said_of}
+use Rattle.dav_limits.specs.Limits.{IsPast}
 use Rattle.dav_seen.specs.Ways.{IsWayReply}
 use Rattle.dav_live.proofs.AdmissionLemmas.{exchange_with}
-use Rattle.dav_live.specs.Answers.{AsksToSee, IsAnswer, IsBarred, IsForeignUnlock, IsKeptFrom, IsLook, IsNotRun, IsSentFor, MayUnlockIn, barred, caller_of, refused, replied, seen, shown, told}
+use Rattle.dav_live.specs.Answers.{AsksToSee, IsAnswer, IsBarred, IsForeignUnlock, IsKeptFrom, IsLook, IsNotRun, IsRefused, IsSentFor, MayUnlockIn, barred, caller_of, full, refused, replied, seen, shown, told}
 
 -- a GET or HEAD leaves the server
 seeing_leaves : (head : List ℕ) (status : ℕ) → AsksToSee head → Leaves head status
@@ -60,18 +62,26 @@ module _ (rules : Rules) (s mid : Server) (same : mid ≡ s) (q : RequestView) (
 
 -- ---- what isn't run
 
-module _ (rules : Option Rules) (s : Server) (came : Request) (q : RequestView) (own : ¬ IsBarred rules s came q) where
-  pub not_run_by : (kept : Request) → IsHead q.head kept → (status : Option ℕ) → Tells (Refuses s kept q.body) status → Tells (IsNotRun rules s came q) status
-  not_run_by kept is (Some n) refuses = refused kept own is refuses
-  not_run_by kept is None none = by
-    where
-      by : (n : ℕ) → ¬ IsNotRun rules s came q n
-      by _ (barred bars) = own bars
-      by n (refused another mine also refuses) = none n (subst (λ (k : Request). Refuses s k q.body n) (one_head q.head another kept also is) refuses)
+-- what the server refuses of a request with this head is what it refuses
+pub refused_of : {at s : Server} {asked q : RequestView} (kept : Request) (body : List ℕ) → at ≡ s → asked ≡ q → IsHead asked.head kept → body ≡ asked.body
+    → (status : Option ℕ) → Tells (Refuses at kept body) status → Tells (IsRefused s q) status
+refused_of {at} {s} {asked} {q} kept body same alike is content (Some n) refuses = (
+  kept,
+  subst (λ (v : RequestView). IsHead v.head kept) alike is,
+  subst (λ (v : RequestView). Refuses s kept v.body n) alike (subst (λ (b : List ℕ). Refuses s kept b n) content (subst (λ (x : Server). Refuses x kept body n) same refuses)),
+)
+refused_of {at} {s} {asked} {q} kept body same alike is content None none = by
+  where
+    by : (n : ℕ) → ¬ IsRefused s q n
+    by n (another, mine, refuses) =
+        let here : IsHead q.head kept = subst (λ (v : RequestView). IsHead v.head kept) alike is in
+        let as_kept : Refuses s kept q.body n = subst (λ (k : Request). Refuses s k q.body n) (one_head q.head another kept mine here) refuses in
+        none n
+        (subst (λ (x : Server). Refuses x kept body n) (sym same)
+        (subst (λ (b : List ℕ). Refuses s kept b n) (sym content) (subst (λ (v : RequestView). Refuses s kept v.body n) (sym alike) as_kept)))
 
-  pub not_run_headless : ((r : Request) → ¬ IsHead q.head r) → (n : ℕ) → ¬ IsNotRun rules s came q n
-  not_run_headless none _ (barred bars) = own bars
-  not_run_headless none n (refused kept mine is refuses) = none kept is
+pub headless_unrefused : (s : Server) (q : RequestView) → ((r : Request) → ¬ IsHead q.head r) → (n : ℕ) → ¬ IsRefused s q n
+headless_unrefused s q none n (kept, mine, refuses) = none kept mine
 
 -- what is kept of a request has its method
 kept_method : (most : ℕ) (strict : Bool) (came kept : Request) → IsKeptOf most strict came kept → kept.method ≡ came.method
@@ -79,21 +89,17 @@ kept_method most strict came _ (other is_other deep) = refl
 kept_method most strict came _ (depthless is) = refl
 kept_method most strict came _ (lock is times decodes) = refl
 
--- a request whose method is none that may be refused is run
-pub not_run_of : (rules : Option Rules) (s : Server) (came : Request) (q : RequestView) → IsKeptFrom came q.head → ¬ MayBeRefused came.method
-    → ¬ IsBarred rules s came q → (n : ℕ) → ¬ IsNotRun rules s came q n
-not_run_of rules s came q from never own _ (barred bars) = own bars
-not_run_of rules s came q (most, strict, kept, is_kept, says) never own n (refused mine is_mine is refuses) =
+-- a request whose method is none that may be refused isn't
+pub unrefused_method : (s : Server) (came : Request) (q : RequestView) → IsKeptFrom came q.head → ¬ MayBeRefused came.method → (n : ℕ) → ¬ IsRefused s q n
+unrefused_method s came q (most, strict, kept, is_kept, says) never n (mine, is, refuses) =
     never (subst MayBeRefused (ap (λ (r : Request). r.method) (said_of q.head mine kept is says) ∙ kept_method most strict came kept is_kept) (may_be_refused s mine q.body n refuses))
 
--- the same, by what was asked of the machine and the request
-pub not_run_from : {at s : Server} {asked q : RequestView} (rules : Option Rules) (came kept : Request) (body : List ℕ) → at ≡ s → asked ≡ q
-    → ¬ IsBarred rules s came q → IsHead asked.head kept → body ≡ asked.body
-    → (status : Option ℕ) → Tells (Refuses at kept body) status → Tells (IsNotRun rules s came q) status
-not_run_from {at} {s} {asked} {q} rules came kept body same alike own is content status refuses =
-    not_run_by rules s came q own kept (subst (λ (v : RequestView). IsHead v.head kept) alike is) status
-    (subst (λ (v : RequestView). Tells (Refuses s kept v.body) status) alike
-    (subst (λ (b : List ℕ). Tells (Refuses s kept b) status) content (subst (λ (x : Server). Tells (Refuses x kept body) status) same refuses)))
+module _ (rules : Option Rules) (limits : List Limit) (s : Server) (came : Request) (q : RequestView) (own : ¬ IsBarred rules s came q) (unrefused : (status : ℕ) → ¬ IsRefused s q status) where
+  -- what would add no more than limits leave is run
+  pub run_within : ¬ IsPast limits s q.head (length q.body) → (n : ℕ) → ¬ IsNotRun rules limits s came q n
+  run_within within _ (barred bars) = own bars
+  run_within within n (refused also refuses) = unrefused n refuses
+  run_within within _ (full also none past) = within past
 
 -- ---- UNLOCK by rules
 

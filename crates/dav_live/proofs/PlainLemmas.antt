@@ -1,16 +1,16 @@
 -- Which heads are those of a GET or HEAD without a body, by their bytes.
-use Rattle.std.proofs.Common.{◌≡◌, ◌≢◌, ◌<◌, ◌⊎◌, ◌+◌, ◌∷◌, ◌++◌, ◌==◌, ◌∙◌, ℕ, Bool, true, false, IsTrue, List, [], length, map, take, drop, get_or, codes, None, append-nil, arith, refl, sym, ap, subst, append_assoc, length-append, inl, inr, true≢false}
+use Rattle.std.proofs.Common.{◌≡◌, ◌≢◌, ◌<◌, ◌⊎◌, ◌+◌, ◌∷◌, ◌++◌, ◌∙◌, ℕ, Bool, true, false, List, [], length, map, take, drop, get_or, codes, None, append-nil, arith, refl, sym, ap, subst, append_assoc, length-append, inl, inr, true≢false}
 use Rattle.std.specs.List.{filter, flat_map, slice_get}
 use Rattle.std.specs.Char.{to_ascii_lowercase}
 use Rattle.std.proofs.lemmas.List.{length-map, take-append-drop}
 use Rattle.std.proofs.Math.Seq.{drop-append-add, take-append_seam}
 use Rattle.std.proofs.lemmas.Slice.Eq.{bytes_eq-Decides}
-use Rattle.httparse.specs.Grammar.{Field, LineEnd, RequestHead, crlf, lf, field_value, is_token_byte, IsToken, print_blank, print_end, print_field, print_request, print_section, print_version}
+use Rattle.httparse.specs.Grammar.{Field, LineEnd, RequestHead, crlf, lf, is_token_byte, IsToken, print_blank, print_end, print_field, print_request, print_section, print_version}
 use Rattle.httparse.specs.Spans.{name_and_value}
 use Rattle.httparse.proofs.GrammarLemmas.{cons-append, print_request-append}
 use Rattle.dav_headers.specs.Cut.{IsWithout}
 use Rattle.dav_headers.proofs.CutLemmas.{IsWithout-cons, IsWithout-nil, cut_one}
-use Rattle.dav_server.specs.Head.{IsHead, Request, is_same_name, values_of}
+use Rattle.dav_server.specs.Head.{IsHead, Request, is_same_name}
 use Rattle.dav_live.specs.Hosts.{value_of}
 use Rattle.dav_live.specs.Rejections.{HasLine, IsPlainRead}
 

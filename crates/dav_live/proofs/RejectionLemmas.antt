@@ -1,5 +1,5 @@
 -- Which requests aren't taken, by their heads alone.
-use Rattle.std.proofs.Common.{◌≡◌, ◌≢◌, ◌≤◌, ◌⊎◌, inl, inr, ℕ, Bool, true, false, List, ◌∷◌, ◌++◌, Contains, Option, Some, None, Ok, Err, MatchOption, codes, drop, true≢false, refl, sym, subst, ap, ◌∙◌}
+use Rattle.std.proofs.Common.{◌≡◌, ◌≢◌, ◌⊎◌, inl, inr, ℕ, Bool, true, false, List, ◌∷◌, ◌++◌, Contains, Option, Some, None, Ok, Err, MatchOption, codes, drop, true≢false, refl, sym, subst, ap, ◌∙◌}
 use Rattle.std.specs.Bool.{Decides}
 use Rattle.std.specs.List.{list_any}
 use Rattle.std.specs.Str.{IsUtf8}
@@ -15,7 +15,6 @@ use Rattle.dav_server.specs.Head.{Request, is_same_name}
 use Rattle.dav_server.specs.Method.{GivesServed}
 use Rattle.dav_server.proofs.MeansWorld.{one_method}
 use Rattle.dav_wire.specs.declared.answer.Rejection.{Rejection}
-use Rattle.dav_wire.specs.declared.answer.Rejection.TheVariants.{NotImplemented, UnsupportedMediaType}
 use Rattle.dav_live.specs.Hosts.{IsHostOf, TellsFor, alone, before_port, own_names, value_of}
 use Rattle.dav_live.specs.Rejections.{HasAuthority, IsBodyRefused, IsOfHost, IsForged, IsUntaken, MayHaveMore, StatesAtMost, TellsRefusedBody, TellsUntaken, bodiless, body, forged, misdirected, takes_body, unserved}
 use Rattle.dav_live.proofs.HostLemmas.{front_of_last, has_colon, no_colon}

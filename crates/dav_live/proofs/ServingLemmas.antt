@@ -1,5 +1,5 @@
 -- What a live server keeps when it answers and hears.
-use Rattle.std.proofs.Common.{◌≡◌, inr, ℕ, Result, Ok, Err, OnOk, MatchOption, ◌⊎◌, inl, [], true, false, Bool, IsFalse, IsTrue, String, option_map, string_bytes, List, Option, Some, None, refl, sym, ap, subst, ◌∙◌}
+use Rattle.std.proofs.Common.{◌≡◌, inr, ℕ, Result, Ok, Err, OnOk, MatchOption, ◌⊎◌, inl, [], Bool, IsFalse, IsTrue, String, option_map, string_bytes, List, Option, Some, None, refl, sym, ap, subst, ◌∙◌}
 use Rattle.std.specs.Global.{Global}
 use Rattle.http_server.specs.declared.response.Response.{Response}
 use Rattle.dav_kept.specs.Kept.{Holding, held_by}
@@ -10,6 +10,7 @@ use Rattle.http_server.specs.Response.{IsResponse}
 use Rattle.dav_server.specs.Head.{IsHead, Request}
 use Rattle.dav_wire.specs.declared.answer.Asked.{Asked}
 use Rattle.dav_access.specs.Rules.{Rules}
+use Rattle.dav_access.specs.declared.limit.Limit.{Limit}
 use Rattle.dav_live.specs.Admission.{AdmissionView, HasLeaveIn, IsLookOf, IsRequestOf, IsTokenFor, after_clocks, challenge_fields, next, none, request_in}
 use Rattle.dav_live.specs.declared.admission.Admitted.{Admitted}
 use Rattle.dav_live.specs.Numbered.{HasNumber}
@@ -88,41 +89,46 @@ passed_later answers is_clean kept ends (Err e) old noted new seconds date a sta
 
 -- ---- a request that was admitted
 
-pub ran_or_not : {S : Type 0} (answers : S → RequestView → Response → S → Type 0) (refuses : Option Rules → S → Request → RequestView → ℕ → Type 0) (looks : Rules → S → RequestView → Response → Type 0) (a b : AdmissionView) (old new noted : Holding S)
+pub ran_or_not : {S : Type 0} (answers : S → RequestView → Response → S → Type 0) (refuses : Option Rules → List Limit → S → Request → RequestView → ℕ → Type 0) (looks : Rules → S → RequestView → Response → Type 0) (a b : AdmissionView) (old new noted : Holding S)
     (asked : Asked) (r : Request) (admitted : Admitted) (own : Response) → IsHead asked.head r → IsRequestOf a old.tokens r asked.body (request_in a admitted asked.body) → b ≡ a → noted ≡ new
-    → ((status : ℕ) × refuses b.rules old.state r (request_in b admitted asked.body) status × IsResponse status (challenge_fields status) [] own × (new ≡ old))
-    ⊎ (((status : ℕ) → ¬ refuses b.rules old.state r (request_in b admitted asked.body) status) × IsRunWhole answers b old (request_in b admitted asked.body) own new)
+    → ((status : ℕ) × refuses b.rules b.limits old.state r (request_in b admitted asked.body) status × IsResponse status (challenge_fields status) [] own × (new ≡ old))
+    ⊎ (((status : ℕ) → ¬ refuses b.rules b.limits old.state r (request_in b admitted asked.body) status) × IsRunWhole answers b old (request_in b admitted asked.body) own new)
     → IsResponseTo answers refuses looks a old asked own noted
 ran_or_not answers refuses looks a b old new noted asked r admitted own is request same noted-is (inl (status, refused, answer, left)) =
-    not_run r (request_in a admitted asked.body) status is request (subst (λ (x : AdmissionView). refuses x.rules old.state r (request_in x admitted asked.body) status) same refused) answer (noted-is ∙ left)
+    not_run r (request_in a admitted asked.body) status is request (subst (λ (x : AdmissionView). refuses x.rules x.limits old.state r (request_in x admitted asked.body) status) same refused) answer (noted-is ∙ left)
 ran_or_not {S} answers refuses looks a b old new noted asked r admitted own is request same noted-is (inr (may, ran)) =
-    run r (request_in a admitted asked.body) is request (subst (λ (x : AdmissionView). (status : ℕ) → ¬ refuses x.rules old.state r (request_in x admitted asked.body) status) same may)
+    run r (request_in a admitted asked.body) is request (subst (λ (x : AdmissionView). (status : ℕ) → ¬ refuses x.rules x.limits old.state r (request_in x admitted asked.body) status) same may)
     (subst (λ (h : Holding S). IsRunWhole answers a old (request_in a admitted asked.body) own h) (sym noted-is)
     (subst (λ (x : AdmissionView). IsRunWhole answers x old (request_in x admitted asked.body) own new) same ran))
 
 -- a request that looks at a folder on the way was answered
-pub way_shown : {S : Type 0} (answers : S → RequestView → Response → S → Type 0) (refuses : Option Rules → S → Request → RequestView → ℕ → Type 0) (looks : Rules → S → RequestView → Response → Type 0) (a b : AdmissionView) (old new noted : Holding S)
+pub way_shown : {S : Type 0} (answers : S → RequestView → Response → S → Type 0) (refuses : Option Rules → List Limit → S → Request → RequestView → ℕ → Type 0) (looks : Rules → S → RequestView → Response → Type 0) (a b : AdmissionView) (old new noted : Holding S)
     (asked : Asked) (r : Request) (admitted : Admitted) (own : Response) → IsHead asked.head r → IsLookOf a r asked.body (request_in a admitted asked.body) → b ≡ a → noted ≡ new
     → (rules : Rules) × (b.rules ≡ Some rules) × looks rules old.state (request_in b admitted asked.body) own → new ≡ old → IsResponseTo answers refuses looks a old asked own noted
 way_shown answers refuses looks a b old new noted asked r admitted own is look same noted-is (rules, some, tells) left =
     shown_way r (request_in a admitted asked.body) rules is look (subst (λ (x : AdmissionView). x.rules ≡ Some rules) same some)
     (subst (λ (x : AdmissionView). looks rules old.state (request_in x admitted asked.body) own) same tells) (noted-is ∙ left)
 
-pub not_refused : {S E : Type 0} (answers : S → RequestView → Response → S → Type 0) (refuses : Option Rules → S → Request → RequestView → ℕ → Type 0) (P : Type 0) (lent : Option Rules) (a : AdmissionView)
-    (state : S) (old new : Holding S) (came : Request) (q r : RequestView) (own : Response) (status : Option ℕ) (result : Result (Unit {0}) E) → lent ≡ a.rules → state ≡ old.state → q ≡ r → status ≡ None
-    → Tells (refuses lent state came q) status → OnOk result (IsRunWhole answers a old q own new)
-    → OnOk result (P ⊎ (((n : ℕ) → ¬ refuses a.rules old.state came r n) × IsRunWhole answers a old r own new))
-not_refused {S} answers refuses P lent a state old new came q r own status result rules at same nothing tells ran =
-    let never : Tells (refuses a.rules old.state came r) None =
-    subst (λ (o : Option Rules). Tells (refuses o old.state came r) None) rules
-    (subst (λ (s : S). Tells (refuses lent s came r) None) at (subst (λ (v : RequestView). Tells (refuses lent state came v) None) same (subst (Tells (refuses lent state came q)) nothing tells))) in
+pub not_refused : {S E : Type 0} (answers : S → RequestView → Response → S → Type 0) (refuses : Option Rules → List Limit → S → Request → RequestView → ℕ → Type 0) (P : Type 0) (lent : Option Rules)
+    (limits : List Limit) (a : AdmissionView) (state : S) (old new : Holding S) (came : Request) (q r : RequestView) (own : Response) (status : Option ℕ) (result : Result (Unit {0}) E)
+    → lent ≡ a.rules → limits ≡ a.limits → state ≡ old.state → q ≡ r → status ≡ None
+    → Tells (refuses lent limits state came q) status → OnOk result (IsRunWhole answers a old q own new)
+    → OnOk result (P ⊎ (((n : ℕ) → ¬ refuses a.rules a.limits old.state came r n) × IsRunWhole answers a old r own new))
+not_refused {S} answers refuses P lent limits a state old new came q r own status result rules bounds at same nothing tells ran =
+    let never : Tells (refuses a.rules a.limits old.state came r) None =
+    subst (λ (o : Option Rules). Tells (refuses o a.limits old.state came r) None) rules
+    (subst (λ (ls : List Limit). Tells (refuses lent ls old.state came r) None) bounds
+    (subst (λ (s : S). Tells (refuses lent limits s came r) None) at
+    (subst (λ (v : RequestView). Tells (refuses lent limits state came v) None) same (subst (Tells (refuses lent limits state came q)) nothing tells)))) in
     on_ok result (λ done. inr (never, subst (λ (v : RequestView). IsRunWhole answers a old v own new) same done)) ran
 
-pub refused_by : {S : Type 0} (refuses : Option Rules → S → Request → RequestView → ℕ → Type 0) (lent rules : Option Rules) (state was : S) (came : Request) (q r : RequestView) (status : Option ℕ) (n : ℕ)
-    → lent ≡ rules → state ≡ was → q ≡ r → status ≡ Some n → Tells (refuses lent state came q) status → refuses rules was came r n
-refused_by {S} refuses lent rules state was came q r status n of at same some tells =
-    subst (λ (o : Option Rules). refuses o was came r n) of
-    (subst (λ (s : S). refuses lent s came r n) at (subst (λ (v : RequestView). refuses lent state came v n) same (subst (Tells (refuses lent state came q)) some tells)))
+pub refused_by : {S : Type 0} (refuses : Option Rules → List Limit → S → Request → RequestView → ℕ → Type 0) (lent rules : Option Rules) (limits bounds : List Limit) (state was : S) (came : Request) (q r : RequestView)
+    (status : Option ℕ) (n : ℕ) → lent ≡ rules → limits ≡ bounds → state ≡ was → q ≡ r → status ≡ Some n → Tells (refuses lent limits state came q) status → refuses rules bounds was came r n
+refused_by {S} refuses lent rules limits bounds state was came q r status n of by at same some tells =
+    subst (λ (o : Option Rules). refuses o bounds was came r n) of
+    (subst (λ (ls : List Limit). refuses lent ls was came r n) by
+    (subst (λ (s : S). refuses lent limits s came r n) at
+    (subst (λ (v : RequestView). refuses lent limits state came v n) same (subst (Tells (refuses lent limits state came q)) some tells))))
 
 -- ---- the time of a file that was put
 

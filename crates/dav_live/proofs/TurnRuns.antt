@@ -1,7 +1,8 @@
 -- The run of a live server's records goes on in each turn.
-use Rattle.std.proofs.Common.{◌≡◌, ℕ, List, Option, refl}
+use Rattle.std.proofs.Common.{ℕ, List, Option, refl}
 use Rattle.http_server.specs.declared.response.Response.{Response}
 use Rattle.dav_access.specs.Rules.{Rules}
+use Rattle.dav_access.specs.declared.limit.Limit.{Limit}
 use Rattle.dav_kept.specs.Records.{RequestView}
 use Rattle.dav_server.specs.Head.{Request}
 use Rattle.dav_turns.specs.Turns.{keeping}
@@ -15,11 +16,11 @@ use Rattle.dav_live.proofs.RunLemmas.{commits_runs, goes_on_runs, kept_runs, run
 
 module _ {H J : Type 0} (answers : H → RequestView → Response → H → Type 0) (saved : H → List ℕ) (is_saveable : H → Type 0) (is_clean : J → Type 0) (kept : J → List (List ℕ) → Type 0) where
   listed_runs : (old new : Service H J) (bytes : List ℕ) → IsListed old bytes new → RunGoesOn answers saved is_saveable is_clean kept (kept_of old) (kept_of new)
-  listed_runs old new bytes (anew users rules reported admission same logins) = same_runs answers saved is_saveable is_clean kept (kept_of old) (kept_of new) same
+  listed_runs old new bytes (anew users rules limits reported admission same logins) = same_runs answers saved is_saveable is_clean kept (kept_of old) (kept_of new) same
   listed_runs old new bytes (refused fault faulty stays logins) = same_runs answers saved is_saveable is_clean kept (kept_of old) (kept_of new) stays.1
 
   -- what a live server does carries the run of its records on
-  pub run_carries : (refuses : Option Rules → H → Request → RequestView → ℕ → Type 0) (looks : Rules → H → RequestView → Response → Type 0) (ends : H → ℕ → Option (List ℕ) → Type 0)
+  pub run_carries : (refuses : Option Rules → List Limit → H → Request → RequestView → ℕ → Type 0) (looks : Rules → H → RequestView → Response → Type 0) (ends : H → ℕ → Option (List ℕ) → Type 0)
       → Carries (keeping (λ (old : Service H J) (head : List ℕ) (verdict : Option Rejection) (new : Service H J). IsJudged old head verdict new)
       (λ (old : Service H J) (asked : Asked) (response : Response) (new : Service H J). Serves answers refuses looks is_clean kept old asked response new)
       (λ (old : Service H J) (bytes : List ℕ) (new : Service H J). IsGreeted old bytes new)

@@ -1,5 +1,5 @@
 -- The head by which a lock is ended is that of an UNLOCK.
-use Rattle.std.proofs.Common.{◌⊎◌, inl, inr, Bool, true, ◌≡◌, ◌≢◌, ◌++◌, ◌∷◌, [], List, ℕ, All, IsTrue, codes, refl, sym, subst, ap, true≢false, false, ◌==◌, ◌∙◌}
+use Rattle.std.proofs.Common.{inl, inr, Bool, true, ◌≡◌, ◌≢◌, ◌++◌, ◌∷◌, [], List, ℕ, All, IsTrue, codes, refl, sym, subst, ap, true≢false, false, ◌==◌, ◌∙◌}
 use Rattle.std.proofs.lemmas.List.{append-nil, append_assoc}
 use Rattle.std.proofs.lemmas.List.Elements.{All-cons, All-head, All-nil, All-tail}
 use Rattle.httparse.specs.Grammar.{AllPass, LineEnd, RequestHead, crlf, is_token_byte, lf, print_blank, print_end, print_request, print_section, print_version}
@@ -10,10 +10,9 @@ use Rattle.dav_core.specs.declared.method.DavMethod.TheVariants.{Copy, Move, Unl
 use Rattle.dav_server.specs.Holder.{IsRequestTo}
 use Rattle.dav_core.specs.Path.{PathText}
 use Rattle.dav_server.specs.Machine.{Exchange, Settings}
-use Rattle.dav_server.specs.Method.{GivesServed}
 use Rattle.dav_server.proofs.MeansWorld.{one_method}
 use Rattle.dav_http.specs.Ending.{unlock_text}
-use Rattle.dav_confined.specs.ConfinedSteps.{KeepsOff, changes_target}
+use Rattle.dav_confined.specs.ConfinedSteps.{KeepsOff, changes_below, changes_target}
 
 abbrev IsNoSpace : ℕ → Type 0
 IsNoSpace b = b ≢ 32
@@ -84,6 +83,7 @@ module _ (covered : Path → Bool) (s : Settings) (x : Exchange) (path token : L
   pub unlock_keeps_off : KeepsOff covered s x
   unlock_keeps_off = record {
     target = λ r m p to changes. absurd (true≢false (sym changes ∙ ap changes_target (unlock_alone r m p to)));
+    below = λ r m p to changes. absurd (true≢false (sym changes ∙ ap changes_below (unlock_alone r m p to)));
     destination = λ r m p d to is named. elim is [
       | inl copy ↦ absurd (let other : Copy ≡ Unlock = sym copy ∙ unlock_alone r m p to in cc)
       | inr move ↦ absurd (let other : Move ≡ Unlock = sym move ∙ unlock_alone r m p to in cc)

@@ -1,5 +1,5 @@
 -- What is said of a request by its head.
-use Rattle.std.proofs.Common.{◌≡◌, ◌≢◌, ◌∙◌, ◌==◌, ◌≤◌, ℕ, Bool, false, true, if◌then◌else◌, List, [], Option, None, Some, MatchOption, Result, Ok, Err, IfOk, IfSome, String, string_bytes, option_map, unwrap_or, codes, sym, subst, ap, refl, inl, inr}
+use Rattle.std.proofs.Common.{◌≡◌, ◌≢◌, ◌∙◌, ◌==◌, ◌≤◌, ℕ, Bool, false, true, if◌then◌else◌, List, [], Option, None, Some, Result, Ok, Err, IfOk, IfSome, String, string_bytes, unwrap_or, codes, sym, subst, ap, refl, inl, inr}
 use Rattle.std.specs.Global.{Global}
 use Rattle.std.proofs.lemmas.Bool.{eqb-true}
 use Rattle.dav_access.specs.Logins.{LoginsView, wait_of}
@@ -8,12 +8,12 @@ use Rattle.dav_core.specs.declared.method.DavMethod.TheVariants.{Get, Head}
 use Rattle.dav_headers.specs.Value.{IsNumber}
 use Rattle.dav_server.specs.Head.{IsHead, Request}
 use Rattle.dav_wire.specs.declared.answer.Rejection.{Rejection}
-use Rattle.dav_wire.specs.declared.answer.Rejection.TheVariants.{Forbidden, TooManyRequests, Unauthorized, Unavailable}
+use Rattle.dav_wire.specs.declared.answer.Rejection.TheVariants.{TooManyRequests, Unauthorized, Unavailable}
 use Rattle.dav_live.specs.Admission.{AdmissionView, MayAskIn, IsClosedTo, IsHeadKept, IsMadeBy, users_for}
 use Rattle.dav_live.specs.Hosts.{value_of}
 use Rattle.dav_live.specs.Rejections.{IsPlainRead, IsSafe, IsUntaken, MayHaveMore, TellsUntaken, body, forged, misdirected}
 use Rattle.dav_live.specs.Serving.{IsJudged, StaysAll, admission_of, judged, left, logins_of}
-use Rattle.dav_live.specs.Verdicts.{IsRejected, IsSenderAsked, IsTakeable, IsVerdict, MayGoOn, PlainReadsMayGoOn, TellsRejected, closed, goes_on, rejected, rejection_of_wait, rejection_without_leave, unknown, untaken, waits, without_leave}
+use Rattle.dav_live.specs.Verdicts.{IsRejected, IsSenderAsked, IsTakeable, IsVerdict, PlainReadsMayGoOn, TellsRejected, goes_on, rejected, rejection_of_wait, rejection_without_leave, unknown, untaken, waits, without_leave}
 use Rattle.dav_live.specs.Waiting.{IsAfterVerdict, MayBeHeard, ShowsLogin, seconds_of}
 use Rattle.dav_live.specs.declared.admission.judging.Rejected.{Rejected}
 use Rattle.dav_live.specs.declared.service.Service.{Service}

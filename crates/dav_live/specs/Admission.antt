@@ -1,6 +1,7 @@
 -- Which requests a live server runs, and what it runs of them.
 use Rattle.std.specs.Prelude.{◌≡◌, ◌≢◌, ◌<◌, ◌⊎◌, ◌↔◌, ◌==◌, ◌&&◌, ℕ, Bool, true, false, List, [], ◌∷◌, ◌++◌, Option, Some, None, Err, IfSome, IsTrue, if◌then◌else◌, codes, count_by, drop, length, min, option_map, string_bytes, take, unwrap_or}
 use Rattle.std.specs.Option.{is_none, is_some}
+use Rattle.dav_access.specs.declared.limit.Limit.{Limit}
 use Rattle.dav_access.specs.Rules.{Rules}
 use Rattle.dav_confined.specs.Leave.{Permits}
 use Rattle.dav_confined.specs.Sight.{Looks}
@@ -18,16 +19,18 @@ use Rattle.dav_live.specs.Hosts.{TellsFor, value_of}
 use Rattle.dav_live.specs.Numbered.{HasNumber}
 use Rattle.dav_live.specs.Rejections.{IsSafe}
 use Rattle.dav_live.specs.Tokens.{token_text}
+use Rattle.dav_http.specs.Steps.{TakesTree}
+use Rattle.dav_live.specs.Swollen.{IsSwollen}
 use Rattle.dav_live.specs.declared.admission.Admitted.{Admitted}
 use Rattle.dav_live.specs.declared.admission.Decision.{Decision}
 use Rattle.dav_live.specs.declared.admission.Decision.TheVariants.{Look, Refused, Run}
 use Rattle.dav_live.specs.declared.admission.Reason.{Reason}
-use Rattle.dav_live.specs.declared.admission.Reason.TheVariants.{Misdirected, Unauthorized, Forbidden, TooLong, Outside, ReadOnly, TooFar}
+use Rattle.dav_live.specs.declared.admission.Reason.TheVariants.{Misdirected, Unauthorized, Forbidden, TooLong, Outside, ReadOnly, TooFar, Swollen}
 
 -- What a server goes by: the prefix of its paths, the names of its host, the most seconds for which a lock is granted, whether a PROPFIND
 -- without a Depth is left to the machine, whether requests may only read, its users, if it has a list of them, the rules of access, if it
--- has any, the moment, in seconds since 1970, the seconds that the front's steady clock told last, if it did, the random bytes of its
--- tokens, and the most bytes of a body.
+-- has any, the limits of its settings, all limits, the moment, in seconds since 1970, the seconds that the front's steady clock told last,
+-- if it did, the random bytes of its tokens, and the most bytes of a body.
 pub record AdmissionView : Type 0 where
   pub prefix : List ℕ
   pub hosts : List (List ℕ)
@@ -36,6 +39,8 @@ pub record AdmissionView : Type 0 where
   pub read_only : Bool
   pub users : Option (List (List ℕ × List ℕ))
   pub rules : Option Rules
+  pub own : List Limit
+  pub limits : List Limit
   pub moment : ℕ
   pub seconds : Option ℕ
   pub random : List ℕ
@@ -93,23 +98,28 @@ reason_for (Some user) = Forbidden
 abbrev pub IsClosedTo : AdmissionView → Request → Type 0
 IsClosedTo a r = (a.read_only ≡ true) × ¬ IsSafe r.method
 
+-- a request has a body that would be read as an element tree far larger than it (RFC 9110, section 15.5.14)
+abbrev pub HasSwollenBody : Request → List ℕ → Type 0
+HasSwollenBody r body = TakesTree r.method × IsSwollen body
+
 -- A request isn't run, for this reason: it is for another host (RFC 9110, section 7.4); no user is shown, but this name (RFC 9110,
--- section 15.5.2); its paths have too many slashes; its target isn't below the prefix; requests may only read; or what would be run of it has
+-- section 15.5.2); its body would be read as far more than it is; its paths have too many slashes; its target isn't below the prefix; requests may only read; or what would be run of it has
 -- no leave, and may not look either (RFC 9110, section 15.5.4); or it begins to write past what a body may have (section 15.5.14). With it the
 -- user.
-pub data IsTurnedAway (a : AdmissionView) (r : Request) : Reason → List ℕ → Type 0 where
-  misdirected : TellsFor a.hosts (value_of (codes "host") r) false → IsTurnedAway a r Misdirected []
+pub data IsTurnedAway (a : AdmissionView) (r : Request) (body : List ℕ) : Reason → List ℕ → Type 0 where
+  misdirected : TellsFor a.hosts (value_of (codes "host") r) false → IsTurnedAway a r body Misdirected []
   unknown : (shown : List ℕ) → TellsFor a.hosts (value_of (codes "host") r) true
-      → ShowsNoUser (users_for a r) (value_of (codes "authorization") r) shown → IsTurnedAway a r Unauthorized shown
-  too_long : (user : Option (List ℕ)) → IsLetIn a r user → HasManySlashes r → IsTurnedAway a r TooLong (unwrap_or user [])
+      → ShowsNoUser (users_for a r) (value_of (codes "authorization") r) shown → IsTurnedAway a r body Unauthorized shown
+  swollen : (user : Option (List ℕ)) → IsLetIn a r user → HasSwollenBody r body → IsTurnedAway a r body Swollen (unwrap_or user [])
+  too_long : (user : Option (List ℕ)) → IsLetIn a r user → HasManySlashes r → IsTurnedAway a r body TooLong (unwrap_or user [])
   outside : (user : Option (List ℕ)) → IsLetIn a r user → ¬ HasManySlashes r → IsOutside a.prefix r
-      → IsTurnedAway a r Outside (unwrap_or user [])
+      → IsTurnedAway a r body Outside (unwrap_or user [])
   closed : (user : Option (List ℕ)) → IsLetIn a r user → ¬ HasManySlashes r → ¬ IsOutside a.prefix r → IsClosedTo a r
-      → IsTurnedAway a r ReadOnly (unwrap_or user [])
+      → IsTurnedAway a r body ReadOnly (unwrap_or user [])
   without_leave : (user : Option (List ℕ)) (head : List ℕ) → IsLetIn a r user → ¬ HasManySlashes r → ¬ IsOutside a.prefix r → ¬ IsClosedTo a r
-      → IsHeadKept a r head → ¬ HasLeaveIn a user head → ¬ LooksIn a user head → IsTurnedAway a r (reason_for user) (unwrap_or user [])
+      → IsHeadKept a r head → ¬ HasLeaveIn a user head → ¬ LooksIn a user head → IsTurnedAway a r body (reason_for user) (unwrap_or user [])
   too_far : (user : Option (List ℕ)) (head : List ℕ) → IsLetIn a r user → ¬ HasManySlashes r → ¬ IsOutside a.prefix r → ¬ IsClosedTo a r
-      → IsHeadKept a r head → HasLeaveIn a user head → BeginsPast a.most_body r → IsTurnedAway a r TooFar (unwrap_or user [])
+      → IsHeadKept a r head → HasLeaveIn a user head → BeginsPast a.most_body r → IsTurnedAway a r body TooFar (unwrap_or user [])
 
 -- The token for a lock that a request may create: a LOCK with a body gets that of the next number, and no other request gets one (RFC
 -- 4918, sections 6.5 and 9.10.2).
@@ -121,6 +131,7 @@ pub data IsTokenFor (random : List ℕ) (number : ℕ) (method body : List ℕ) 
 -- body, the moment, who makes it, and the token for a lock. It has leave, and writes within what a body may have.
 pub record IsRequestOf (a : AdmissionView) (tokens : ℕ) (came : Request) (body : List ℕ) (q : RequestView) : Type 0 where
   pub let_in : IsLetIn a came q.principal
+  pub lean : ¬ HasSwollenBody came body
   pub few : ¬ HasManySlashes came
   pub inside : ¬ IsOutside a.prefix came
   pub open_to : ¬ IsClosedTo a came
@@ -137,6 +148,7 @@ pub record IsRequestOf (a : AdmissionView) (tokens : ℕ) (came : Request) (body
 -- makes it. It has no leave to be run.
 pub record IsLookOf (a : AdmissionView) (came : Request) (body : List ℕ) (q : RequestView) : Type 0 where
   pub let_in : IsLetIn a came q.principal
+  pub lean : ¬ HasSwollenBody came body
   pub few : ¬ HasManySlashes came
   pub inside : ¬ IsOutside a.prefix came
   pub open_to : ¬ IsClosedTo a came
@@ -163,7 +175,7 @@ TellsSafe r is = IsTrue is ↔ IsSafe r.method
 
 -- what becomes of a request with this body, where tokens of so many numbers were given
 abbrev pub IsDecision : AdmissionView → ℕ → Request → List ℕ → Decision → Type 0
-IsDecision a tokens came body (Refused refused) = IsTurnedAway a came refused.reason (string_bytes refused.user)
+IsDecision a tokens came body (Refused refused) = IsTurnedAway a came body refused.reason (string_bytes refused.user)
 IsDecision a tokens came body (Look admitted) = IsLookOf a came body (request_in a admitted body)
 IsDecision a tokens came body (Run admitted) =
     IsRequestOf a tokens came body (request_in a admitted body) × TellsSafe came admitted.only_reads
@@ -177,6 +189,7 @@ status_of TooLong = 414
 status_of ReadOnly = 403
 status_of Outside = 404
 status_of TooFar = 413
+status_of Swollen = 413
 
 -- the fields of the response: 401 has the challenge (RFC 9110, section 11.6.1; RFC 7617, section 2.1)
 abbrev pub refusal_fields : Reason → List (List ℕ × List ℕ)

@@ -1,8 +1,9 @@
 -- How the machine of a live server answers (RFC 9110, section 3; RFC 4918, section 8).
-use Rattle.std.specs.Prelude.{◌≡◌, ◌⊎◌, ◌↔◌, ℕ, Bool, true, false, List, Option, Some, None, codes}
+use Rattle.std.specs.Prelude.{◌≡◌, ◌⊎◌, ℕ, Bool, false, List, Option, Some, None, codes, length}
 use Rattle.std.specs.Str.{IsUtf8}
 use Rattle.http_server.specs.declared.response.Response.{Response}
 use Rattle.dav_access.specs.Rules.{Rules}
+use Rattle.dav_access.specs.declared.limit.Limit.{Limit}
 use Rattle.dav_confined.specs.Leave.{MayUnlock}
 use Rattle.dav_core.specs.Locks.{Lock}
 use Rattle.dav_engine.specs.Caller.{Caller}
@@ -20,6 +21,8 @@ use Rattle.dav_http.specs.Room.{room_of}
 use Rattle.dav_http.specs.Sending.{IsSentAs}
 use Rattle.dav_http.specs.Steps.{IsStepFor}
 use Rattle.dav_kept.specs.Records.{RequestView}
+use Rattle.dav_limits.specs.Limits.{IsPast}
+use Rattle.dav_core.specs.Path.{Path}
 use Rattle.dav_seen.specs.Ways.{IsWayReply}
 use Rattle.dav_store.specs.LockEnds.{first_ended}
 use Rattle.dav_live.specs.Hosts.{value_of}
@@ -36,11 +39,12 @@ HasMethod method head = (r : Request) × IsHead head r × (r.method ≡ method)
 abbrev pub AsksToSee : List ℕ → Type 0
 AsksToSee head = HasMethod (codes "GET") head ⊎ HasMethod (codes "HEAD") head
 
--- What is sent to a request of a reply to it, which leaves this server: what its client is shown, where so many bytes can still be stored as
--- the front told last; as it is where the bytes of its head are none.
+-- What is sent to a request of a reply to it, which leaves this server: what its client is shown, where so many bytes can still be stored, as
+-- the front told last and as limits leave, at a path and below it or everywhere; as it is where the bytes of its head are none.
 pub data IsSentFor (s : Server) (q : RequestView) (r : Reply) (sent : Response) : Type 0 where
   headless : ((h : Request) → ¬ IsHead q.head h) → IsSentAs false r sent → IsSentFor s q r sent
-  presented : (h : Request) → IsHead q.head h → (available : ℕ) → IsShown h q.body q.moment (room_of s available) r sent → IsSentFor s q r sent
+  presented : (h : Request) → IsHead q.head h → (place : Option Path) (available : ℕ) → IsShown h q.body q.moment (room_of s place available) r sent
+      → IsSentFor s q r sent
 
 -- The response to a request, and the server that is left: the reply of a step of the machine, as it is sent; or, where that is 405 to the
 -- GET or HEAD of a folder, a page of 200 for a person, and then the server is as it was.
@@ -76,12 +80,18 @@ abbrev pub barred_status : Option (List ℕ) → ℕ
 barred_status None = 401
 barred_status (Some user) = 403
 
+-- a server refuses a request with this status, for its conditions, or for what it asks
+abbrev pub IsRefused : Server → RequestView → ℕ → Type 0
+IsRefused s q status = (kept : Request) × IsHead q.head kept × Refuses s kept q.body status
+
 -- A request that came, and would be run as that one, isn't run, and is answered with this status: that of an UNLOCK of a lock that its user
--- may not end; or the status with which the server refuses it for its conditions, or for what it asks.
-pub data IsNotRun (rules : Option Rules) (s : Server) (came : Request) (q : RequestView) : ℕ → Type 0 where
-  barred : IsBarred rules s came q → IsNotRun rules s came q (barred_status q.principal)
-  refused : {status : ℕ} (kept : Request) → ¬ IsBarred rules s came q
-      → IsHead q.head kept → Refuses s kept q.body status → IsNotRun rules s came q status
+-- may not end; or the status with which the server refuses it for its conditions, or for what it asks; or 507, where it would add more than
+-- these limits leave (RFC 4918, section 11.5).
+pub data IsNotRun (rules : Option Rules) (limits : List Limit) (s : Server) (came : Request) (q : RequestView) : ℕ → Type 0 where
+  barred : IsBarred rules s came q → IsNotRun rules limits s came q (barred_status q.principal)
+  refused : {status : ℕ} → ¬ IsBarred rules s came q → IsRefused s q status → IsNotRun rules limits s came q status
+  full : ¬ IsBarred rules s came q → ((status : ℕ) → ¬ IsRefused s q status) → IsPast limits s q.head (length q.body)
+      → IsNotRun rules limits s came q 507
 
 -- These bytes are the head that is kept of a request that came, whatever the longest time of a lock is, and whatever is left to the machine.
 abbrev pub IsKeptFrom : Request → List ℕ → Type 0

@@ -3,6 +3,7 @@ pub mod Clock
 pub mod Hosts
 pub mod Lists
 pub mod Rejections
+pub mod Swollen
 pub mod Admission
 pub mod Waiting
 pub mod Verdicts

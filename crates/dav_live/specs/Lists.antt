@@ -3,8 +3,9 @@ use Rattle.std.specs.Prelude.{◌≡◌, ◌≢◌, ◌⊎◌, ℕ, false, List,
 use Rattle.std.specs.Str.{IsUtf8}
 use Rattle.dav_access.specs.Reading.{IsReadFault}
 use Rattle.dav_access.specs.Rules.{Rules}
+use Rattle.dav_access.specs.declared.limit.Limit.{Limit}
 use Rattle.dav_access.specs.RulesFaults.{IsAccessFault}
-use Rattle.dav_access.specs.RulesText.{AreRulesOf, UserList, has_taken_name}
+use Rattle.dav_access.specs.RulesText.{AreLimitsOf, AreRulesOf, UserList, has_taken_name}
 use Rattle.dav_access.specs.Texts.{IsSplit}
 use Rattle.dav_access.specs.Users.{ListsUsers}
 use Rattle.dav_access.specs.declared.error.UsersError.{UsersError}
@@ -18,15 +19,15 @@ AreUsers None users = users ≡ None
 AreUsers (Some text) None = ⊥
 AreUsers (Some text) (Some users) = ListsUsers text users × (users ≢ [])
 
--- the rules of a text by these users; none without a text
-abbrev pub AreRules : UserList → Option (List ℕ) → Option Rules → Type 0
-AreRules users None rules = rules ≡ None
-AreRules users (Some text) None = ⊥
-AreRules users (Some text) (Some rules) = (has_taken_name users ≡ false) × AreRulesOf users text rules
+-- the rules of a text by these users, and its limits; none without a text
+abbrev pub AreRules : UserList → Option (List ℕ) → Option Rules → List Limit → Type 0
+AreRules users None rules limits = (rules ≡ None) × (limits ≡ [])
+AreRules users (Some text) None limits = ⊥
+AreRules users (Some text) (Some rules) limits = (has_taken_name users ≡ false) × AreRulesOf users text rules × AreLimitsOf text limits
 
--- the users and the rules of two texts, each of which may be missing
-abbrev pub AreLists : Option (List ℕ) → Option (List ℕ) → UserList → Option Rules → Type 0
-AreLists list access users rules = AreUsers list users × AreRules users access rules
+-- the users, the rules and the limits of two texts, each of which may be missing
+abbrev pub AreLists : Option (List ℕ) → Option (List ℕ) → UserList → Option Rules → List Limit → Type 0
+AreLists list access users rules limits = AreUsers list users × AreRules users access rules limits
 
 -- why there are none: the first text is no list of users, or the second one has no rules by these users
 abbrev pub IsUnlisted : Option (List ℕ) → Option (List ℕ) → ListsError → Type 0
@@ -46,9 +47,10 @@ pub data AreTexts (report : List ℕ) : Option (List ℕ) → Option (List ℕ) 
   alone : ¬ Contains report 0 → AreTexts report (Some report) None
   both : (list access : List ℕ) → IsSplit 0 report list access → AreTexts report (text_if_any list) (Some access)
 
--- a report has these users and rules
-abbrev pub Reports : List ℕ → UserList → Option Rules → Type 0
-Reports report users rules = (list : Option (List ℕ)) × (access : Option (List ℕ)) × AreTexts report list access × AreLists list access users rules
+-- a report has these users, rules and limits
+abbrev pub Reports : List ℕ → UserList → Option Rules → List Limit → Type 0
+Reports report users rules limits =
+    (list : Option (List ℕ)) × (access : Option (List ℕ)) × AreTexts report list access × AreLists list access users rules limits
 
 -- why a report has none
 abbrev pub IsFaulty : List ℕ → ListsError → Type 0

@@ -6,7 +6,6 @@ use Rattle.dav_journal.specs.Pair.{IsCleanPair, IsKeptPair}
 use Rattle.dav_journal.specs.declared.pair.Pair.{Pair}
 use Rattle.dav_http.specs.Saved.{IsSaveable, saved_bytes}
 use Rattle.dav_kept.specs.declared.kept.Kept.{Kept}
-use Rattle.dav_server.specs.Head.{Request}
 use Rattle.dav_server.specs.Server.{Server}
 use Rattle.dav_turns.specs.Connections.{TurnsView}
 use Rattle.dav_turns.specs.Turns.{Keeping, keeping}

@@ -2,11 +2,9 @@
 use Rattle.std.proofs.Common.{◌≡◌, List, [], ◌∷◌, ap, ◌∙◌}
 use Rattle.http_server.specs.declared.response.Response.{Response}
 use Rattle.dav_http.specs.Saved.{IsSaveable, Loads, saved_bytes}
-use Rattle.dav_http.specs.Steps.{IsStepFor}
 use Rattle.dav_http.proofs.SavedLaws.{saved_is_loaded}
 use Rattle.dav_kept.specs.Kept.{LoadsWhatWasSaved, RecordsRun, answer_step}
 use Rattle.dav_kept.specs.Records.{RecordView, RequestView}
-use Rattle.dav_server.specs.Machine.{Settings}
 use Rattle.dav_server.specs.Server.{Server}
 use Rattle.dav_live.specs.Answers.{IsAnswer, replied, shown}
 

@@ -1,11 +1,12 @@
 -- How a live server answers requests and hears its front, and what of that is kept.
-use Rattle.std.specs.Prelude.{◌≡◌, ◌≢◌, ◌≤◌, ◌⊎◌, ◌==◌, ℕ, if◌then◌else◌, List, [], ◌∷◌, ◌++◌, Option, Some, None, codes}
+use Rattle.std.specs.Prelude.{◌≡◌, ◌≢◌, ◌⊎◌, ◌==◌, ℕ, if◌then◌else◌, List, [], ◌∷◌, ◌++◌, Option, Some, None, codes}
 use Rattle.http_server.specs.declared.response.Response.{Response}
 use Rattle.http_server.specs.Response.{IsResponse, fields_of}
 use Rattle.httpdate.specs.Date.{date_text, unix_secs}
 use Rattle.httpdate.specs.declared.date.HttpDate.{HttpDate}
 use Rattle.dav_access.specs.Logins.{LoginsView}
 use Rattle.dav_access.specs.Rules.{Rules}
+use Rattle.dav_access.specs.declared.limit.Limit.{Limit}
 use Rattle.dav_access.specs.RulesText.{UserList}
 use Rattle.dav_http.specs.Uploaded.{BringsTime, time_body, time_head}
 use Rattle.dav_kept.specs.Kept.{Holding, IsAnswerOf, held_by}
@@ -81,22 +82,22 @@ pub record IsRunWhole {S : Type 0} (answers : S → RequestView → Response →
 -- The response to a request, but for its date, and what is held then: 400 where its head is none (RFC 9110, section 15.5.1); the refusal
 -- of one that isn't let in; the status of one that the server doesn't run; what is told to one that only looks at a folder on the way to
 -- what may be read; and else that of the request that is run of it.
-pub data IsResponseTo {S : Type 0} (answers : S → RequestView → Response → S → Type 0) (refuses : Option Rules → S → Request → RequestView → ℕ → Type 0)
+pub data IsResponseTo {S : Type 0} (answers : S → RequestView → Response → S → Type 0) (refuses : Option Rules → List Limit → S → Request → RequestView → ℕ → Type 0)
     (looks : Rules → S → RequestView → Response → Type 0)
     (a : AdmissionView) (old : Holding S) (asked : Asked) (own : Response) (new : Holding S) : Type 0 where
   no_head : ((r : Request) → ¬ IsHead asked.head r) → IsResponse 400 [] [] own → new ≡ old → IsResponseTo answers refuses looks a old asked own new
-  turned_away : (r : Request) (reason : Reason) (user : List ℕ) → IsHead asked.head r → IsTurnedAway a r reason user
+  turned_away : (r : Request) (reason : Reason) (user : List ℕ) → IsHead asked.head r → IsTurnedAway a r asked.body reason user
       → IsResponse (status_of reason) (refusal_fields reason) [] own → new ≡ old → IsResponseTo answers refuses looks a old asked own new
-  not_run : (r : Request) (q : RequestView) (status : ℕ) → IsHead asked.head r → IsRequestOf a old.tokens r asked.body q → refuses a.rules old.state r q status
+  not_run : (r : Request) (q : RequestView) (status : ℕ) → IsHead asked.head r → IsRequestOf a old.tokens r asked.body q → refuses a.rules a.limits old.state r q status
       → IsResponse status (challenge_fields status) [] own → new ≡ old → IsResponseTo answers refuses looks a old asked own new
   shown_way : (r : Request) (q : RequestView) (rules : Rules) → IsHead asked.head r → IsLookOf a r asked.body q → a.rules ≡ Some rules
       → looks rules old.state q own → new ≡ old → IsResponseTo answers refuses looks a old asked own new
-  run : (r : Request) (q : RequestView) → IsHead asked.head r → IsRequestOf a old.tokens r asked.body q → ((status : ℕ) → ¬ refuses a.rules old.state r q status)
+  run : (r : Request) (q : RequestView) → IsHead asked.head r → IsRequestOf a old.tokens r asked.body q → ((status : ℕ) → ¬ refuses a.rules a.limits old.state r q status)
       → IsRunWhole answers a old q own new → IsResponseTo answers refuses looks a old asked own new
 
 -- The response to a request, but for its date, what is held then, and what is known of logins: 429 to who has to wait (RFC 6585,
 -- section 4), and else the response to it.
-pub data IsReplyTo {S : Type 0} (answers : S → RequestView → Response → S → Type 0) (refuses : Option Rules → S → Request → RequestView → ℕ → Type 0)
+pub data IsReplyTo {S : Type 0} (answers : S → RequestView → Response → S → Type 0) (refuses : Option Rules → List Limit → S → Request → RequestView → ℕ → Type 0)
     (looks : Rules → S → RequestView → Response → Type 0)
     (a : AdmissionView) (l : LoginsView) (old : Holding S) (asked : Asked) (own : Response) (new : Holding S) (after : LoginsView) : Type 0 where
   told_to_wait : (r : Request) (seconds : ℕ) → IsHead asked.head r → HasToWait a l r seconds → IsResponse 429 (wait_fields seconds) [] own
@@ -115,7 +116,7 @@ pub record IsDated (moment : ℕ) (own sent : Response) : Type 0 where
   pub body : sent.body ≡ own.body
 
 -- A service answers a request: what it goes by stays as it was, and the run of its records goes on.
-pub record Serves {H J : Type 0} (answers : H → RequestView → Response → H → Type 0) (refuses : Option Rules → H → Request → RequestView → ℕ → Type 0)
+pub record Serves {H J : Type 0} (answers : H → RequestView → Response → H → Type 0) (refuses : Option Rules → List Limit → H → Request → RequestView → ℕ → Type 0)
     (looks : Rules → H → RequestView → Response → Type 0) (is_clean : J → Type 0)
     (kept : J → List (List ℕ) → Type 0) (old : Service H J) (asked : Asked) (sent : Response) (new : Service H J) : Type 0 where
   pub own : Response
@@ -154,8 +155,9 @@ IsGreeted old bytes new =
 -- The list of users or the rules were written anew. Both are as they are reported; or, where one is at fault, both are as they were. What is
 -- known of logins stays, though the lists are others: a login that was right is checked by them all the same, and just doesn't wait for that.
 pub data IsListed {H J : Type 0} (old : Service H J) (bytes : List ℕ) (new : Service H J) : Type 0 where
-  anew : (users : UserList) (rules : Option Rules) → Reports bytes users rules
-      → admission_of new ≡ record (admission_of old) { users = users; rules = rules } → kept_of new ≡ kept_of old
+  anew : (users : UserList) (rules : Option Rules) (listed : List Limit) → Reports bytes users rules listed
+      → admission_of new ≡ record (admission_of old) { users = users; rules = rules; limits = (admission_of old).own ++ listed }
+      → kept_of new ≡ kept_of old
       → logins_of new ≡ logins_of old → IsListed old bytes new
   refused : (fault : ListsError) → IsFaulty bytes fault → StaysAll old new → logins_of new ≡ logins_of old → IsListed old bytes new
 

@@ -1,8 +1,9 @@
 //! Which requests are run, and what is run of them.
 ghost use Rattle.std.specs.Prelude.{◌≡◌, ◌≢◌, ◌↔◌, [], IfOk, IsTrue, OnOk, option_map, unwrap_or, string_bytes};
+ghost use Rattle.std.specs.Bool.{Decides};
 ghost use Rattle.http_server.specs.Response.{IsBlank, IsResponse};
 ghost use Rattle.dav_core.specs.declared.errors.DavError.TheVariants.{IllegalPath, Memory};
-ghost use Rattle.dav_live.specs.Admission.{HasManySlashes, IsOutside, IsTokenFor, challenge_fields, reason_for, refusal_fields, slashes_in, status_of};
+ghost use Rattle.dav_live.specs.Admission.{HasManySlashes, HasSwollenBody, IsOutside, IsTokenFor, challenge_fields, reason_for, refusal_fields, slashes_in, status_of};
 ghost use Rattle.dav_live.specs.declared.admission.RefusedRequest.{RefusedRequest as RefusedValue};
 
 mod judging;
@@ -10,15 +11,17 @@ mod login;
 
 use crate::clock::moment_after;
 use crate::hosts::is_for;
+use crate::limits::joined;
 use crate::lists::{Lists, ListsError, texts_in};
 use crate::settings::Settings;
+use crate::swollen::is_swollen;
 use crate::token::token_text;
 use bytes::Bytes;
-use dav_access::{Refusal, Rules, Users, principal_of};
+use dav_access::{Limit, Refusal, Rules, Users, principal_of};
 use dav_confined::{has_leave, may_look};
 use dav_core::errors::DavError;
 use dav_core::method::DavMethod;
-use dav_http::{Head, begins_past, is_lock, is_safe};
+use dav_http::{Head, begins_past, is_lock, is_safe, takes_tree};
 use dav_server::exchange::LAST_MOMENT;
 use dav_server::target::path_of;
 use dav_wire::Stop;
@@ -48,6 +51,8 @@ pub enum Reason {
     ReadOnly,
     /// It begins to write past the most bytes of a body (413).
     TooFar,
+    /// Its body would be read as an element tree far larger than it (413).
+    Swollen,
 }
 
 impl Reason {
@@ -61,7 +66,7 @@ impl Reason {
             Reason::Forbidden | Reason::ReadOnly => StatusCode::FORBIDDEN,
             Reason::TooLong => StatusCode::URI_TOO_LONG,
             Reason::Outside => StatusCode::NOT_FOUND,
-            Reason::TooFar => StatusCode::PAYLOAD_TOO_LARGE,
+            Reason::TooFar | Reason::Swollen => StatusCode::PAYLOAD_TOO_LARGE,
         }
     }
 }
@@ -104,6 +109,8 @@ pub struct Admission {
     settings: Settings,
     users: Option<Users>,
     rules: Option<Rules>,
+    /// The settings' limits and those of the rules.
+    limits: Vec<Limit>,
     moment: u64,
     /// The seconds that the front's steady clock told last; none before its first report.
     seconds: Option<u64>,
@@ -125,6 +132,8 @@ impl Model for Admission {
       read_only = a.settings.read_only;
       users = a.users;
       rules = a.rules;
+      own = a.settings.limits.items;
+      limits = a.limits.items;
       moment = a.moment;
       seconds = a.seconds;
       random = a.random;
@@ -132,6 +141,13 @@ impl Model for Admission {
     } };
 
     ghost invariant = { λ a. a.moment ≤ last_moment };
+}
+
+// Whether a request has a body that would be read as an element tree far larger than it.
+fn has_swollen_body(head: &Head<'_>, body: &Bytes) -> bool
+    ensures { Decides result (HasSwollenBody head.now body.now) }
+{
+    takes_tree(head.method()) && is_swollen(body.as_slice())
 }
 
 // How many slashes a text has.
@@ -199,22 +215,28 @@ fn refused(reason: Reason, user: String) -> Decision
 }
 
 impl Admission {
-    ghost use Rattle.std.specs.Prelude.{◌≡◌, ◌≢◌, ◌⊎◌, ◌≤◌, ◌<◌, ◌↔◌, ℕ, List, Option, Some, None, IfErr, IfOk, IfSome, IsFalse, IsTrue, MatchOption, codes, map, min, option_map, replicate, string_bytes};
+    ghost use Rattle.std.specs.Prelude.{◌≡◌, ◌≢◌, ◌⊎◌, ◌≤◌, ◌<◌, ◌↔◌, ◌++◌, ℕ, List, Option, Some, None, IfErr, IfOk, IfSome, IsFalse, IsTrue, MatchOption, codes, map, min, option_map, replicate, string_bytes};
     ghost use Rattle.std.specs.Bool.{Decides};
     ghost use Rattle.std.specs.Option.{is_some, option_copied};
     ghost use Rattle.dav_access.specs.Principals.{IsRefusal};
     ghost use Rattle.dav_access.specs.Rules.{Rules as RulesValue};
+    ghost use Rattle.dav_access.specs.declared.limit.Limit.{Limit as LimitValue};
     ghost use Rattle.dav_access.specs.RulesText.{UserList};
     ghost use Rattle.dav_access.specs.Users.{IsName};
     ghost use Rattle.dav_core.specs.World.{last_moment};
     ghost use Rattle.dav_http.specs.Placed.{BeginsPast};
-    ghost use Rattle.dav_live.specs.Admission.{HasManySlashes, HasLeaveIn, IsDecision, IsClosedTo, IsHeadKept, IsLetIn, IsMadeBy, LooksIn, MayAskIn, IsOutside, IsRequestOf, TellsSafe, after_clocks, request_in, users_for, with_random};
+    ghost use Rattle.dav_live.specs.Admission.{HasManySlashes, HasLeaveIn, HasSwollenBody, IsDecision, IsClosedTo, IsHeadKept, IsLetIn, IsMadeBy, LooksIn, MayAskIn, IsOutside, IsRequestOf, TellsSafe, after_clocks, request_in, users_for, with_random};
     ghost use Rattle.dav_live.specs.Hosts.{value_of};
     ghost use Rattle.dav_live.specs.Lists.{IsFaulty, Reports};
 
-    /// What a server with these settings, users and rules goes by at a moment, at most the end of the year 9999.
-    pub fn new(alloc: Global, settings: Settings, lists: Lists, moment: u64) -> Admission
-        ensures { result ≡ record {
+    /// What a server with these settings, users, rules and limits goes by at a moment, at most the end of the year 9999.
+    pub fn new(
+        alloc: Global,
+        settings: Settings,
+        lists: Lists,
+        moment: u64,
+    ) -> Result<Admission, AllocError>
+        ensures { IfOk result (λ a. a ≡ record {
           prefix = string_bytes settings.prefix;
           hosts = map string_bytes settings.hosts.items;
           lock_time = settings.lock_time;
@@ -222,21 +244,25 @@ impl Admission {
           read_only = settings.read_only;
           users = lists.users;
           rules = lists.rules;
+          own = settings.limits.items;
+          limits = settings.limits.items ++ lists.limits.items;
           moment = min moment last_moment;
           seconds = None;
           random = replicate 16 0;
           most_body = settings.most_body;
-        } }
+        }) }
     {
-        Admission {
+        let limits = joined(alloc, &settings.limits, &lists.limits)?;
+        Ok(Admission {
             alloc,
             settings,
             users: lists.users,
             rules: lists.rules,
+            limits,
             moment: moment.min(LAST_MOMENT),
             seconds: None,
             random: [0; 16],
-        }
+        })
     }
 
     /// The moment, in seconds since 1970, at most the end of the year 9999.
@@ -252,6 +278,13 @@ impl Admission {
         ensures { option_copied result ≡ self.now.rules }
     {
         self.rules.as_ref()
+    }
+
+    /// The limits.
+    pub fn limits(&self) -> &[Limit]
+        ensures { result.now ≡ self.now.limits }
+    {
+        &self.limits
     }
 
     /// Whether the front reported its clocks.
@@ -270,7 +303,7 @@ impl Admission {
             return Ok(refused(Reason::Misdirected, String::new(self.alloc)));
         }
         match self.principal_of(head) {
-            Ok(principal) => self.admit(principal, head, body, tokens),
+            Ok(principal) => self.admit_lean(principal, head, body, tokens),
             Err(Refusal::Unknown(shown)) => Ok(refused(Reason::Unauthorized, shown)),
             Err(Refusal::Memory) => Err(Stop::Memory),
         }
@@ -357,7 +390,25 @@ impl Admission {
         self.settings.read_only && !is_safe(head.method())
     }
 
-    // What becomes of a request that is let in, of this user.
+    // What becomes of a request that is let in, of this user: nothing is read of a body that would swell.
+    fn admit_lean(
+        &self,
+        principal: Option<String>,
+        head: &Head<'_>,
+        body: &Bytes,
+        tokens: u64,
+    ) -> Result<Decision, Stop>
+        requires let_in { IsLetIn self.now head.now (option_map string_bytes principal) }
+        requires named { IfSome principal (λ n. IsName (string_bytes n)) }
+        ensures { IfOk result (IsDecision self.now tokens head.now body.now) }
+    {
+        if has_swollen_body(head, body) {
+            return Ok(refused_of(self.alloc, Reason::Swollen, principal));
+        }
+        Ok(self.admit(principal, head, body, tokens)?)
+    }
+
+    // What becomes of a request that is let in, of this user, whose body doesn't swell.
     fn admit(
         &self,
         principal: Option<String>,
@@ -367,6 +418,7 @@ impl Admission {
     ) -> Result<Decision, Stop>
         requires let_in { IsLetIn self.now head.now (option_map string_bytes principal) }
         requires named { IfSome principal (λ n. IsName (string_bytes n)) }
+        requires lean { ¬ HasSwollenBody head.now body.now }
         ensures { IfOk result (IsDecision self.now tokens head.now body.now) }
     {
         if has_many_slashes(head) {
@@ -401,7 +453,7 @@ impl Admission {
         requires open_to { ¬ IsClosedTo self.now head.now }
         requires kept { IsHeadKept self.now head.now bytes.items }
         requires lacks { ¬ HasLeaveIn self.now (option_map string_bytes principal) bytes.items }
-        ensures { (tokens : ℕ) (body : List ℕ)
+        ensures { (tokens : ℕ) (body : List ℕ) → ¬ HasSwollenBody head.now body
             → IfOk result (IsDecision self.now tokens head.now body) }
     {
         if !self.may_look(principal.as_deref(), &bytes)? {
@@ -431,6 +483,7 @@ impl Admission {
         requires kept { IsHeadKept self.now head.now kept.items }
         requires leave { HasLeaveIn self.now (option_map string_bytes principal) kept.items }
         requires within { ¬ BeginsPast self.now.most_body head.now }
+        requires lean { ¬ HasSwollenBody head.now body.now }
         ensures request { IfOk result (λ admitted. IsRequestOf self.now tokens head.now body.now
             (request_in self.now admitted body.now)) }
         ensures safe { IfOk result (λ admitted. TellsSafe head.now admitted.only_reads) }
@@ -452,16 +505,22 @@ impl Admission {
         self.random[..len].copy_from_slice(&bytes[..len]);
     }
 
-    /// Takes the list of the users and the rules anew, both or neither. The fault of those that aren't taken: then both are as they were.
+    /// Takes the list of the users and the rules with their limits anew, all or nothing. The fault of those that aren't taken: then all
+    /// is as it was.
     pub fn hear_users(&mut self, bytes: &[u8]) -> Result<Option<ListsError>, Stop>
         ensures { IfOk result (λ fault. MatchOption fault
-            ((users : UserList) × (rules : Option RulesValue) × Reports bytes.now users rules
-            × (self.new ≡ record self.old { users = users; rules = rules }))
+            ((users : UserList) × (rules : Option RulesValue) × (listed : List LimitValue)
+            × Reports bytes.now users rules listed × (self.new ≡ record self.old {
+              users = users;
+              rules = rules;
+              limits = self.old.own ++ listed;
+            }))
             (λ f. IsFaulty bytes.now f × (self.new ≡ self.old))) }
     {
         let (users, access) = texts_in(bytes);
         match Lists::read(self.alloc, users, access) {
             Ok(lists) => {
+                self.limits = joined(self.alloc, &self.settings.limits, &lists.limits)?;
                 self.users = lists.users;
                 self.rules = lists.rules;
                 Ok(None)

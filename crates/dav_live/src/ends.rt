@@ -2,6 +2,7 @@
 ghost use Rattle.std.specs.Prelude.{◌≡◌, ℕ, List, Option, IfOk, OnOk, option_map, string_bytes};
 ghost use Rattle.std.specs.Option.{option_copied};
 ghost use Rattle.dav_access.specs.Rules.{Rules as RulesValue};
+ghost use Rattle.dav_access.specs.declared.limit.Limit.{Limit as LimitValue};
 ghost use Rattle.dav_http.specs.Refused.{Tells};
 ghost use Rattle.http_server.specs.declared.response.Response.{Response as Sent};
 ghost use Rattle.http_server.specs.Response.{IsBlank};
@@ -9,7 +10,7 @@ ghost use Rattle.dav_kept.specs.Records.{RequestView};
 ghost use Rattle.dav_server.specs.Head.{Request};
 ghost use Rattle.dav_live.specs.Answers.{IsKeptFrom};
 
-use dav_access::Rules;
+use dav_access::{Limit, Rules};
 use dav_core::errors::NoMemory;
 use dav_http::Head;
 use dav_kept::{Asks, HandleError, Handles, Request as AskedRequest};
@@ -28,21 +29,27 @@ pub trait Ends: Handles {
     /// Sees that so many bytes can still be stored, for who asks for the room. The state stays the same.
     fn see_room(&self, available: u64);
 
-    // By these rules, if there are any, this request that came, and would be run as that one, isn't run in this state, and is
-    // answered with this status.
-    ghost refuses: { Option RulesValue → Self → Request → RequestView → ℕ → Type 0 };
+    /// Sees that these limits hold from now on, for who asks for the room: how much is at their paths and below them is counted once,
+    /// with the next request. The state stays the same.
+    fn see_limits(&self, limits: Vec<Limit>);
 
-    /// With which status a request is answered, where it isn't to be run, by rules, where there are any; `None` where it is. It came
-    /// with this head, of which it has what is kept.
+    // By these rules, if there are any, and by these limits this request that came, and would be run as that one, isn't run in this
+    // state, and is answered with this status.
+    ghost refuses: { Option RulesValue → List LimitValue → Self → Request → RequestView → ℕ → Type 0 };
+
+    /// With which status a request is answered, where it isn't to be run, by rules, where there are any, and by limits; `None` where it
+    /// is. It came with this head, of which it has what is kept.
     fn refusal(
         &self,
         rules: Option<&Rules>,
+        limits: &[Limit],
         head: &Head<'_>,
         request: &AskedRequest<'_>,
     ) -> Result<Option<StatusCode>, NoMemory>
         requires { IsKeptFrom head.now request.now.head }
         ensures { IfOk result (λ status.
-            Tells (refuses (option_copied rules.entry) self.now head.now request.now) status) };
+            Tells (refuses (option_copied rules.entry) limits.now self.now head.now request.now)
+            status) };
 
     // By these rules, this is the response to a request that looks at a folder on the way to what its principal may read.
     ghost looks: { RulesValue → Self → RequestView → Sent → Type 0 };

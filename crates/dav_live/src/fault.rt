@@ -120,7 +120,7 @@ impl From<KeptError> for OpenError {
 impl From<JournalError> for OpenError {
     fn from(error: JournalError) -> OpenError {
         match error {
-            JournalError::Io | JournalError::NoRoom => OpenError::Disk,
+            JournalError::Io | JournalError::NoRoom | JournalError::Passed => OpenError::Disk,
             JournalError::Foreign => OpenError::Foreign,
             JournalError::Damaged(place) => OpenError::Damaged(place),
             JournalError::Memory => OpenError::Memory,

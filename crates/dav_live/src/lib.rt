@@ -11,6 +11,7 @@ mod ends;
 mod fault;
 mod hosts;
 pub mod laws;
+mod limits;
 mod line;
 mod lists;
 mod live;
@@ -19,13 +20,15 @@ mod page;
 mod rejection;
 mod service;
 mod settings;
+mod swollen;
 #[cfg(test)]
 mod tests;
 mod token;
 mod told;
 
-pub use dav_access::{AccessError, UsersError};
+pub use dav_access::{AccessError, Limit, Measure, UsersError};
 pub use fault::{Fault, OpenError};
+pub use limits::limit_of_all;
 pub use lists::{Lists, ListsError};
 pub use live::{Live, Watch};
 pub use settings::Settings;

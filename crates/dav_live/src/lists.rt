@@ -8,17 +8,19 @@ ghost use Rattle.dav_access.specs.RulesFaults.{IsAccessFault};
 ghost use Rattle.dav_access.specs.Users.{ListsUsers};
 ghost use Rattle.dav_live.specs.Lists.{AreLists, AreRules, AreTexts, AreUsers, IsUnlisted, text_if_any};
 
-use dav_access::{AccessError, Rules, Users, UsersError, file};
+use dav_access::{AccessError, Limit, Rules, Users, UsersError, file};
 use std::alloc::Global;
 use std::str;
 use thiserror::Error;
 
-/// The users, if there is a list of them, and the rules, if there are any. Without a list nobody logs in; without rules each user may do
-/// everything, and so may everybody where there is no list.
+/// The users, if there is a list of them, the rules, if there are any, and their limits. Without a list nobody logs in; without rules each
+/// user may do everything, and so may everybody where there is no list.
 #[derive(Drop)]
 pub struct Lists {
     pub users: Option<Users>,
     pub rules: Option<Rules>,
+    /// How much there may be at paths and below them.
+    pub limits: Vec<Limit>,
 }
 
 /// Why there are no users and rules in two texts.
@@ -83,35 +85,44 @@ fn users_in(alloc: Global, text: Option<&[u8]>) -> Result<Option<Users>, UsersEr
     }
 }
 
-// The rules of a text, if there is one, by these users.
+// The rules of a text, if there is one, by these users, and its limits.
 fn rules_in(
     alloc: Global,
     text: Option<&[u8]>,
     users: &Option<Users>,
-) -> Result<Option<Rules>, AccessError>
-    ensures { MatchResult result (AreRules users.now (option_copied text.entry)) (λ e. (t : List ℕ)
+) -> Result<(Option<Rules>, Vec<Limit>), AccessError>
+    ensures { MatchResult result
+        (λ r. AreRules users.now (option_copied text.entry) r.0 r.1.items) (λ e. (t : List ℕ)
         × (option_copied text.entry ≡ Some t) × IsAccessFault users.now t e) }
 {
     match text {
-        Some(text) => Ok(Some(file::read(alloc, text, users.as_ref())?)),
-        None => Ok(None),
+        Some(text) => {
+            let access = file::read(alloc, text, users.as_ref())?;
+            Ok((Some(access.rules), access.limits))
+        }
+        None => Ok((None, Vec::new(alloc))),
     }
 }
 
 impl Lists {
-    /// The users and the rules of two texts, either of which may be missing. The rules are read by these users.
+    /// The users, and the rules with their limits, of two texts, either of which may be missing. The rules are read by these users.
     pub fn read(
         alloc: Global,
         users: Option<&[u8]>,
         access: Option<&[u8]>,
     ) -> Result<Lists, ListsError>
         ensures { MatchResult result
-            (λ l. AreLists (option_copied users.entry) (option_copied access.entry) l.users l.rules)
+            (λ l. AreLists (option_copied users.entry) (option_copied access.entry) l.users l.rules
+            l.limits.items)
             (IsUnlisted (option_copied users.entry) (option_copied access.entry)) }
     {
         let users = users_in(alloc, users)?;
-        let rules = rules_in(alloc, access, &users)?;
-        Ok(Lists { users, rules })
+        let (rules, limits) = rules_in(alloc, access, &users)?;
+        Ok(Lists {
+            users,
+            rules,
+            limits,
+        })
     }
 }
 

@@ -1,6 +1,7 @@
 //! A live server, behind one stream of reports and one of orders.
 ghost use Rattle.std.specs.Prelude.{◌≡◌, [], IfOk};
 ghost use Rattle.dav_journal.specs.Pair.{IsCleanPair, IsReadingPair};
+ghost use Rattle.dav_turns.specs.Frames.{BeginsWith, ReportView};
 ghost use Rattle.dav_live.specs.LiveRun.{service_of};
 
 use crate::fault::{Fault, OpenError};
@@ -11,7 +12,7 @@ use crate::settings::Settings;
 use dav_http::Handler;
 use dav_journal::Pair;
 use dav_kept::adopt;
-use dav_turns::{Turns, TurnsConfig};
+use dav_turns::{Turns, TurnsConfig, has_report};
 use dav_wire::Config;
 use http1::Limits;
 use sqlite_disk::Disk;
@@ -61,7 +62,7 @@ impl<D: Disk + Drop> Live<D> {
     ghost use Rattle.dav_kept.specs.Kept.{Snapshot, answer_step, held_by, is_new, journal_of};
     ghost use Rattle.dav_kept.specs.Life.{IsRunSince};
     ghost use Rattle.dav_server.specs.Server.{Server as ServerValue};
-    ghost use Rattle.dav_turns.specs.Frames.{Order, order_bytes};
+    ghost use Rattle.dav_turns.specs.Frames.{BeginsWith, Order, ReportView, order_bytes};
     ghost use Rattle.dav_turns.specs.Turns.{Turn};
     ghost use Rattle.dav_live.specs.Answers.{IsAnswer};
     ghost use Rattle.dav_live.specs.Runs.{IsOneRun, IsOpened, RunGoesOn};
@@ -195,7 +196,7 @@ impl<D: Disk + Drop> Live<D> {
         }
     }
 
-    // Reads once, takes what came, and hands out the orders.
+    // Takes the reports that came, and hands out the orders; reads once before that, where no whole report is left.
     fn serve_once<R: Read, W: Write, L: Watch>(
         &mut self,
         pipe: &mut Pipe,
@@ -207,6 +208,8 @@ impl<D: Disk + Drop> Live<D> {
             (λ j. IsCleanPair D.Disk j) (λ j bs. IsKeptPair D.Disk j bs) (kept_in self.old)
             (kept_in self.new)) }
         ensures ended { result ≡ Err Fault.Ended → kept_in self.new ≡ kept_in self.old }
+        ensures reads { (t : ReportView) → BeginsWith pipe.old.input.items t
+            → reader.new ≡ reader.old }
     {
         read_more(pipe, reader)?;
         watch.begin();
@@ -271,8 +274,18 @@ fn new_pipe(alloc: Global) -> Result<Pipe, AllocError> {
     })
 }
 
+// Reads once, where no whole report is left.
+fn read_more<R: Read>(pipe: &mut Pipe, reader: &mut R) -> Result<(), Fault>
+    ensures { (t : ReportView) → BeginsWith pipe.old.input.items t → reader.new ≡ reader.old }
+{
+    if has_report(&pipe.input) {
+        return Ok(());
+    }
+    read_once(pipe, reader)
+}
+
 // Reads once; a read that a signal interrupts gives nothing.
-fn read_more<R: Read>(pipe: &mut Pipe, reader: &mut R) -> Result<(), Fault> {
+fn read_once<R: Read>(pipe: &mut Pipe, reader: &mut R) -> Result<(), Fault> {
     let count = match reader.read(&mut pipe.piece) {
         Ok(count) => count,
         Err(error) if error.kind() == ErrorKind::Interrupted => return Ok(()),

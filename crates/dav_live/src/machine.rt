@@ -15,8 +15,10 @@ ghost use Rattle.dav_live.specs.Answers.{AsksToSee, IsAnswer, IsSentFor, barred_
 use crate::ends::Ends;
 use crate::page;
 use bytes::Bytes;
-use dav_access::Rules;
+use dav_access::{Limit, Measure, Rules};
+use dav_confined::leave::Asked;
 use dav_confined::may_unlock;
+use dav_core::davpath::DavPath;
 use dav_core::errors::NoMemory;
 use dav_engine::{Caller, Reply, ReplyBody};
 use dav_http::{
@@ -24,6 +26,7 @@ use dav_http::{
     send, unlock_head,
 };
 use dav_kept::{Effect, HandleError, Handles, Request};
+use dav_limits::{Watches, is_past};
 use dav_presented::typed::with_types;
 use dav_saved::LoadError;
 use dav_seen::{LookError, way_reply};
@@ -32,7 +35,7 @@ use http_server::Response;
 use std::alloc::Global;
 use std::cell::Cell;
 use std::marker::Model;
-use std::str;
+use std::{mem, str};
 
 /// A machine, as records are played on it.
 #[derive(Drop)]
@@ -41,6 +44,12 @@ pub struct Machine {
     handler: Handler,
     /// How many bytes can still be stored, as the front told last; 0 as long as it told nothing.
     available: Cell<u64>,
+    /// The limits that hold from the next request on, where these are others.
+    told: Cell<Option<Vec<Limit>>>,
+    /// The limits that hold, for what is told of the room.
+    limits: Vec<Limit>,
+    /// How much is at their paths and below them.
+    watches: Watches,
 }
 
 impl Model for Machine {
@@ -53,6 +62,10 @@ impl Model for Machine {
     ghost coded = { server_code fs_error.the_row.coded };
 
     ghost view = { λ m. m.handler.server };
+
+    ghost use Rattle.dav_limits.specs.Watches.{AreExact};
+
+    ghost invariant = { λ m. AreExact m.handler.server m.watches };
 }
 
 // Whether a method is HEAD.
@@ -151,7 +164,55 @@ impl Machine {
             alloc,
             handler,
             available: Cell::new(0),
+            told: Cell::new(None),
+            limits: Vec::new(alloc),
+            watches: Watches::new(alloc),
         }
+    }
+}
+
+impl Machine {
+    ghost use Rattle.dav_live.specs.Answers.{IsRefused};
+    ghost use Rattle.dav_limits.specs.Limits.{IsPast};
+    ghost use Rattle.dav_http.specs.Refused.{Tells};
+    ghost use Rattle.std.specs.Prelude.{IfOk, length};
+    ghost use Rattle.std.specs.Bool.{Decides};
+    ghost use Rattle.dav_live.specs.Answers.{IsKeptFrom};
+
+    // With which status the server refuses a request, which came with this head, for its conditions or for what it asks.
+    fn refused_status(
+        &self,
+        head: &Head<'_>,
+        request: &Request<'_>,
+    ) -> Result<Option<StatusCode>, NoMemory>
+        requires { IsKeptFrom head.now request.now.head }
+        ensures { IfOk result (λ status. Tells (IsRefused self.now request.now) status) }
+    {
+        if !may_be_refused(head.method()) {
+            return Ok(None);
+        }
+        match Head::read(request.head) {
+            Some(kept) => self
+                .handler
+                .refusal(self.alloc, &kept, request.body.as_slice()),
+            None => Ok(None),
+        }
+    }
+
+    // Whether a request would add more than limits leave.
+    fn is_past(&self, limits: &[Limit], request: &Request<'_>) -> Result<bool, NoMemory>
+        ensures { IfOk result (λ is. Decides is
+            (IsPast limits.now self.now request.now.head (length request.now.body))) }
+    {
+        let (watches, len) = (&self.watches, request.body.len() as u64);
+        is_past(
+            self.alloc,
+            limits,
+            watches,
+            &self.handler,
+            request.head,
+            len,
+        )
     }
 }
 
@@ -164,6 +225,32 @@ fn refused(error: HttpError) -> HandleError {
 }
 
 impl Machine {
+    // Counts how much is at the paths of the limits that were told, where some were.
+    fn see_told(&mut self) -> Result<(), NoMemory>
+        ensures { self.new ≡ self.old }
+    {
+        if let Some(limits) = self.told.replace(None) {
+            self.watches = Watches::of(self.alloc, &self.handler, &limits)?;
+            self.limits = limits;
+        }
+        Ok(())
+    }
+
+    // The reply of the handler to a request with this head and body.
+    fn ask(&mut self, head: &[u8], body: Bytes, caller: &Caller<'_>) -> Result<Reply, HttpError>
+        ensures step { IfOk result (λ reply.
+            IsStepFor head.now body caller.now self.old reply self.new) }
+        ensures left { IfOk result (λ reply. Leaves head.now reply.status
+            → self.new ≡ self.old) }
+    {
+        self.see_told()?;
+        let watches = mem::replace(&mut self.watches, Watches::new(self.alloc));
+        let noted = watches.noted(self.alloc, &self.handler, head)?;
+        let reply = self.handler.handle(self.alloc, head, body, caller)?;
+        self.watches = noted.renewed(self.alloc, &self.handler)?;
+        Ok(reply)
+    }
+
     // The reply of the handler to a request.
     fn run(&mut self, request: &Request<'_>) -> Result<Reply, HttpError>
         ensures step { IfOk result (λ reply. IsStepFor request.now.head request.now.body
@@ -173,7 +260,7 @@ impl Machine {
     {
         let caller = caller_of(request);
         let body = request.body.clone()?;
-        self.handler.handle(self.alloc, request.head, body, &caller)
+        self.ask(request.head, body, &caller)
     }
 
     // The reply to a request.
@@ -187,14 +274,6 @@ impl Machine {
             Ok(reply) => Ok(reply),
             Err(error) => Err(refused(error)),
         }
-    }
-
-    // The reply of the handler to a request with this head and body.
-    fn ask(&mut self, head: &[u8], body: Bytes, caller: &Caller<'_>) -> Result<Reply, HttpError>
-        ensures left { IfOk result (λ reply. Leaves head.now reply.status
-            → self.new ≡ self.old) }
-    {
-        self.handler.handle(self.alloc, head, body, caller)
     }
 
     // The same, and `Malformed` where it isn't known that the request leaves the state.
@@ -304,6 +383,41 @@ fn effect_of(head: &Head<'_>, status: u16) -> Effect
 }
 
 impl Machine {
+    // Where the limit of bytes is that leaves least of those that count what is at a path, if there is one, and how many bytes can
+    // still be stored there.
+    fn room_at(&self, path: &DavPath) -> Result<(Option<&DavPath>, u64), NoMemory> {
+        let (mut place, mut least) = (None, u64::MAX);
+        for limit in &self.limits {
+            if limit.measure == Measure::Space && path.is_at_or_under(&limit.path) {
+                let there = self
+                    .watches
+                    .amount_at(self.alloc, &self.handler, &limit.path)?;
+                let left = limit.most.saturating_sub(there.bytes);
+                if left <= least {
+                    (place, least) = (Some(&limit.path), left);
+                }
+            }
+        }
+        Ok((place, least.min(self.available.get())))
+    }
+
+    // The server with the room that a request with this head is told of, where it tells of room.
+    fn store_for(&self, head: &[u8]) -> Result<Store<'_>, NoMemory>
+        ensures { IfOk result (λ store. store.server.now.server ≡ self.now) }
+    {
+        let (mut place, mut available) = (None, self.available.get());
+        if !self.limits.is_empty() && method_of(head) == b"PROPFIND".as_slice() {
+            if let Some(asked) = Asked::read(self.alloc, head, self.handler.prefix())? {
+                (place, available) = self.room_at(&asked.path)?;
+            }
+        }
+        Ok(Store {
+            server: &self.handler,
+            place,
+            available,
+        })
+    }
+
     // Fills the response to a request with what its client is shown of a reply.
     fn answer_with(
         &self,
@@ -320,10 +434,7 @@ impl Machine {
             return Ok(Effect::Left);
         };
         let effect = effect_of(&head, reply.status.as_u16());
-        let store = Store {
-            server: &self.handler,
-            available: self.available.get(),
-        };
+        let store = self.store_for(request.head)?;
         let body = request.body.as_slice();
         present(
             self.alloc,
@@ -356,6 +467,28 @@ impl Machine {
 }
 
 impl Machine {
+    // The reply to a request with this head and body that looks at a folder on the way.
+    fn look_at(
+        &mut self,
+        rules: &Rules,
+        head: &[u8],
+        body: &Bytes,
+        caller: &Caller<'_>,
+    ) -> Result<Reply, HandleError>
+        ensures reply { IfOk result
+            (IsWayReply rules.now self.old head.now body.now caller.now) }
+        ensures same { OnOk result (self.new ≡ self.old) }
+    {
+        let watches = mem::replace(&mut self.watches, Watches::new(self.alloc));
+        match way_reply(self.alloc, rules, &mut self.handler, head, body, caller) {
+            Ok(reply) => {
+                self.watches = watches;
+                Ok(reply)
+            }
+            Err(error) => Err(unseen(error)),
+        }
+    }
+
     // The reply to a request that looks at a folder on the way.
     fn way_reply(&mut self, rules: &Rules, request: &Request<'_>) -> Result<Reply, HandleError>
         ensures reply { IfOk result (IsWayReply rules.now self.old request.now.head
@@ -363,11 +496,7 @@ impl Machine {
         ensures same { OnOk result (self.new ≡ self.old) }
     {
         let caller = caller_of(request);
-        let (head, body) = (request.head, request.body);
-        match way_reply(self.alloc, rules, &mut self.handler, head, body, &caller) {
-            Ok(reply) => Ok(reply),
-            Err(error) => Err(unseen(error)),
-        }
+        self.look_at(rules, request.head, request.body, &caller)
     }
 
     // Fills the response to a request that looks at a folder with the reply.
@@ -391,10 +520,7 @@ impl Machine {
         let head = page::asking_head(self.alloc, request.head)?;
         let body = Bytes::from_static(page::ASKED);
         let caller = caller_of(request);
-        match way_reply(self.alloc, rules, &mut self.handler, &head, &body, &caller) {
-            Ok(reply) => Ok(reply),
-            Err(error) => Err(unseen(error)),
-        }
+        self.look_at(rules, &head, &body, &caller)
     }
 
     // Fills the response to a request that looks at a folder with a page; where there is none with the reply.
@@ -455,6 +581,7 @@ impl Handles for Machine {
     }
 
     fn load(&mut self, bytes: &[u8]) -> Result<(), HandleError> {
+        self.watches = Watches::new(self.alloc);
         match self.handler.load(self.alloc, bytes) {
             Ok(()) => Ok(()),
             Err(LoadError::NotSaved) => Err(HandleError::Malformed),
@@ -498,25 +625,29 @@ impl Ends for Machine {
         }
     }
 
-    ghost refuses = { λ rules server came q status. IsNotRun rules server came q status };
+    fn see_limits(&self, limits: Vec<Limit>) {
+        let _ = self.told.replace(Some(limits));
+    }
+
+    ghost refuses = { λ rules limits server came q status.
+        IsNotRun rules limits server came q status };
 
     fn refusal(
         &self,
         rules: Option<&Rules>,
+        limits: &[Limit],
         head: &Head<'_>,
         request: &Request<'_>,
     ) -> Result<Option<StatusCode>, NoMemory> {
         if self.is_barred(rules, head, request)? {
             return Ok(Some(barred_status(request.principal)));
         }
-        if !may_be_refused(head.method()) {
-            return Ok(None);
+        if let Some(status) = self.refused_status(head, request)? {
+            return Ok(Some(status));
         }
-        match Head::read(request.head) {
-            Some(kept) => self
-                .handler
-                .refusal(self.alloc, &kept, request.body.as_slice()),
-            None => Ok(None),
+        if self.is_past(limits, request)? {
+            return Ok(Some(StatusCode::INSUFFICIENT_STORAGE));
         }
+        Ok(None)
     }
 }

@@ -6,6 +6,7 @@ mod trying;
 use crate::admission::Admission;
 use crate::ends::Ends;
 use crate::fault::OpenError;
+use crate::limits::joined;
 use crate::lists::Lists;
 use crate::live::Watch;
 use crate::settings::Settings;
@@ -31,7 +32,7 @@ pub struct Service<H, J> {
 }
 
 impl<H: Ends + Drop, J: Keeps + Drop> Service<H, J> {
-    ghost use Rattle.std.specs.Prelude.{◌≡◌, ◌⊎◌, ◌<◌, ℕ, List, [], Option, None, IfOk, OnOk, length, map, min, replicate, string_bytes};
+    ghost use Rattle.std.specs.Prelude.{◌≡◌, ◌⊎◌, ◌<◌, ◌++◌, ℕ, List, [], Option, None, IfOk, OnOk, length, map, min, replicate, string_bytes};
     ghost use Rattle.dav_core.specs.World.{last_moment};
     ghost use Rattle.dav_kept.specs.Kept.{Snapshot, answer_step, held_by, is_new, journal_of};
     ghost use Rattle.dav_kept.specs.Life.{IsRunSince};
@@ -63,6 +64,8 @@ impl<H: Ends + Drop, J: Keeps + Drop> Service<H, J> {
           read_only = settings.read_only;
           users = lists.users;
           rules = lists.rules;
+          own = settings.limits.items;
+          limits = settings.limits.items ++ lists.limits.items;
           moment = min (held_of s).latest last_moment;
           seconds = None;
           random = replicate 16 0;
@@ -73,9 +76,12 @@ impl<H: Ends + Drop, J: Keeps + Drop> Service<H, J> {
         let told = Told::new(alloc, settings.logs);
         let (most_body, most_waiting) = (settings.most_body, settings.most_waiting);
         let short_journal = settings.short_journal;
+        let admission = Admission::new(alloc, settings, lists, kept.latest())?;
+        let limits = joined(alloc, admission.limits(), &[])?;
+        kept.handler().see_limits(limits);
         Ok(Service {
             alloc,
-            admission: Admission::new(alloc, settings, lists, kept.latest()),
+            admission,
             logins: Logins::new(alloc),
             kept,
             told,

@@ -1,4 +1,5 @@
 //! What a server is told when it begins.
+use dav_access::Limit;
 
 /// The settings of a server.
 #[derive(Drop)]
@@ -20,6 +21,8 @@ pub struct Settings {
     pub most_waiting: u64,
     /// The bytes of a journal past which it may begin anew with a snapshot.
     pub short_journal: usize,
+    /// How much the server may hold: files and folders, and bytes, at paths and below them. Those of the rules hold besides.
+    pub limits: Vec<Limit>,
     /// Whether a line is written of each request.
     pub logs: bool,
 }

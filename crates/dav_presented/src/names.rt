@@ -1,5 +1,5 @@
 //! The names of elements (Namespaces in XML 1.0, section 2.1).
-ghost use Rattle.std.specs.Prelude.{◌≡◌, [], option_map};
+ghost use Rattle.std.specs.Prelude.{◌≡◌, [], bytes_eq, codes, option_map};
 ghost use Rattle.std.specs.Option.{option_copied};
 ghost use Rattle.dav_presented.specs.Names as spec;
 
@@ -25,19 +25,48 @@ pub fn space_of(element: &Element) -> &str
 pub fn is_same(one: &Element, other: &Element) -> bool
     ensures { result ≡ spec.is_same one.now other.now }
 {
-    space_of(one) == space_of(other) && one.name == other.name
+    is_text(space_of(one), space_of(other)) && is_text(one.name.as_str(), other.name.as_str())
 }
 
 /// Whether an element's name is in that namespace (Namespaces in XML 1.0, section 2.1).
 pub fn is_in(element: &Element, space: &str) -> bool
     ensures { result ≡ spec.is_in space.now element.now }
 {
-    space_of(element) == space
+    is_text(space_of(element), space)
 }
 
 /// Whether an element has that name in the namespace `DAV:` (RFC 4918, section 14).
 pub fn is_dav(element: &Element, name: &str) -> bool
     ensures { result ≡ spec.is_dav name.now element.now }
 {
-    element.name.as_str() == name && space_of(element) == "DAV:"
+    is_text(element.name.as_str(), name) && is_dav_space(space_of(element))
+}
+
+// Whether two texts are the same.
+fn is_text(one: &str, other: &str) -> bool
+    ensures { result ≡ bytes_eq one.now other.now }
+{
+    are_same(one.as_bytes(), other.as_bytes())
+}
+
+// Whether bytes are the same, one after another: names are short.
+fn are_same(one: &[u8], other: &[u8]) -> bool
+    ensures { result ≡ bytes_eq one.now other.now }
+{
+    if one.len() != other.len() {
+        return false;
+    }
+    for (i, byte) in one.iter().enumerate() {
+        if *byte != other[i] {
+            return false;
+        }
+    }
+    true
+}
+
+// Whether a namespace is `DAV:`.
+fn is_dav_space(space: &str) -> bool
+    ensures { result ≡ bytes_eq space.now (codes "DAV:") }
+{
+    matches!(space.as_bytes(), [b'D', b'A', b'V', b':'])
 }

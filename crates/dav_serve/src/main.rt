@@ -4,9 +4,9 @@
 //! That a state was begun is told by FOLDER/state.begun: where that is there, and no block of the state, the state is gone. That there
 //! were rules of access is told by FOLDER/state.ruled: where that is there, and no FOLDER/access, a start is refused.
 //!
-//! Exit status: 0 the input ended; 1 the arguments, the folder, the users or the rules of access are wrong, or the state is in use; 2 a report wasn't
-//! understood, or a pipe failed; 3 memory ran out; 4 the state is damaged or of another version, and nothing was changed; 5 the disk
-//! is full or failed.
+//! Exit status: 0 the input ended; 1 the arguments, the folder, the users or the rules of access are wrong; 2 a report wasn't understood, or a
+//! pipe failed; 3 memory ran out; 4 the state is damaged or of another version, and nothing was changed; 5 the disk is full or failed; 6
+//! another process has the state: with `--wait` that isn't said on standard error, since who began the program begins it again.
 #![tactic(auto)]
 
 ghost use Rattle.std.specs.Prelude.{◌≡◌};
@@ -24,7 +24,7 @@ use begun::{note_begun, see_begun};
 use dav_live::{Fault, Lists, ListsError, Live};
 use found::text_in;
 use options::Options;
-use refusal::{Refusal, refused, status_of};
+use refusal::{Refusal, refused, status_of, unopened};
 use rest::keep_rest;
 use ruled::{note_ruled, see_ruled};
 use sqlite_disk::Files;
@@ -69,13 +69,17 @@ fn lists_in(rt: &HostRuntime, alloc: Global, folder: &str) -> Result<(Lists, boo
 
 // The server of a folder.
 fn open_live(rt: &HostRuntime, alloc: Global, options: Options) -> Result<Live<File>, Refusal> {
-    let Options { folder, settings } = options;
+    let Options {
+        folder,
+        settings,
+        waits,
+    } = options;
     let (lists, is_ruled) = lists_in(rt, alloc, folder.as_str())?;
     let path = format!(in alloc; "{folder}/state")?;
-    let Ok(files) = open(rt, path.as_str(), Unknown) else {
-        return Err(Refusal::State(folder));
+    let Files { db, log } = match open(rt, path.as_str(), Unknown) {
+        Ok(files) => files,
+        Err(error) => return Err(unopened(folder, waits, error)),
     };
-    let Files { db, log } = files;
     let prefix = settings.prefix.clone()?;
     let mut live = match Live::open(alloc, db, log, lists, settings) {
         Ok(live) => live,
@@ -113,8 +117,10 @@ fn main(rt: HostRuntime) -> ExitCode {
             ExitCode::from(status_after(fault))
         }
         Err(refusal) => {
-            // A failed write to standard error can't be reported anywhere.
-            let _ = eprintln!(rt; "serve: {refusal}");
+            if !matches!(refusal, Refusal::Awaited) {
+                // A failed write to standard error can't be reported anywhere.
+                let _ = eprintln!(rt; "serve: {refusal}");
+            }
             ExitCode::from(status_of(&refusal))
         }
     }

@@ -1,5 +1,5 @@
 //! The arguments of the program.
-use dav_live::Settings;
+use dav_live::{Limit, Measure, Settings, limit_of_all};
 use std::alloc::{AllocError, AllocFailed, Global};
 use std::env::Args;
 use thiserror::Error;
@@ -24,13 +24,15 @@ const SHORT_JOURNAL: usize = 67_108_864;
 pub struct Options {
     pub folder: String,
     pub settings: Settings,
+    /// Whether the state is waited for where it is in use.
+    pub waits: bool,
 }
 
 /// Why arguments aren't understood.
 #[derive(Debug, Drop, Error)]
 pub enum OptionsError {
     /// There is no folder among them.
-    #[error("usage: dav-serve FOLDER [--prefix /PATH] [--host NAME].. [--lock-time SECONDS] [--body BYTES] [--waiting BYTES] [--snapshot-past BYTES] [--strict] [--read-only] [--log]")]
+    #[error("usage: dav-serve FOLDER [--prefix /PATH] [--host NAME].. [--lock-time SECONDS] [--body BYTES] [--waiting BYTES] [--files COUNT] [--space BYTES] [--snapshot-past BYTES] [--strict] [--read-only] [--log] [--wait]")]
     NoFolder,
     /// No option has this name.
     #[error("'{0}' isn't an option")]
@@ -62,8 +64,8 @@ impl<T: Drop> From<AllocFailed<T>> for OptionsError {
 }
 
 impl Options {
-    /// The options of arguments: a folder, and then options, each with its value but for `--log`, `--strict` and `--read-only`. Of
-    /// an option that comes twice the last one counts, but for `--host`.
+    /// The options of arguments: a folder, and then options, each with its value but for `--log`, `--strict`, `--read-only` and
+    /// `--wait`. Of an option that comes twice the last one counts, but for `--host`.
     pub fn read(alloc: Global, arguments: &mut Args) -> Result<Options, OptionsError> {
         let Some(folder) = arguments.next() else {
             return Err(OptionsError::NoFolder);
@@ -76,9 +78,11 @@ impl Options {
             read_only: false,
             most_body: BODY,
             most_waiting: 0,
+            limits: Vec::new(alloc),
             short_journal: SHORT_JOURNAL,
             logs: false,
         };
+        let mut waits = false;
         for _ in 0..u64::MAX {
             let Some(name) = arguments.next() else {
                 break;
@@ -87,11 +91,16 @@ impl Options {
                 "--log" => settings.logs = true,
                 "--strict" => settings.strict = true,
                 "--read-only" => settings.read_only = true,
+                "--wait" => waits = true,
                 _ => set(&mut settings, name, arguments.next())?,
             }
         }
         settings.most_waiting = waiting_of(settings.most_waiting, settings.most_body)?;
-        Ok(Options { folder, settings })
+        Ok(Options {
+            folder,
+            settings,
+            waits,
+        })
     }
 }
 
@@ -123,6 +132,14 @@ fn set(settings: &mut Settings, name: String, value: Option<String>) -> Result<(
             settings.lock_time = u32::try_from(seconds).unwrap_or(u32::MAX);
         }
         "--waiting" => settings.most_waiting = number(name, value, u64::MAX)?,
+        "--files" => {
+            let most = number(name, value, u64::MAX)?;
+            limit(&mut settings.limits, Measure::Files, most)?;
+        }
+        "--space" => {
+            let most = number(name, value, u64::MAX)?;
+            limit(&mut settings.limits, Measure::Space, most)?;
+        }
         "--snapshot-past" => {
             let bytes = number(name, value, u64::MAX)?;
             settings.short_journal = usize::try_from(bytes).unwrap_or(usize::MAX);
@@ -132,11 +149,30 @@ fn set(settings: &mut Settings, name: String, value: Option<String>) -> Result<(
     Ok(())
 }
 
+// Sets the limit of the whole server for a measure, in place of the one that was told before, if one was.
+fn limit(limits: &mut Vec<Limit>, measure: Measure, most: u64) -> Result<(), AllocError> {
+    for limit in limits.iter_mut() {
+        if limit.measure == measure {
+            limit.most = most;
+            return Ok(());
+        }
+    }
+    let limit = limit_of_all(*limits.allocator(), measure, most)?;
+    Ok(limits.push(limit)?)
+}
+
 // Whether there is an option with this name that has a value.
 fn takes_value(name: &str) -> bool {
     matches!(
         name,
-        "--prefix" | "--host" | "--lock-time" | "--body" | "--waiting" | "--snapshot-past"
+        "--prefix"
+            | "--host"
+            | "--lock-time"
+            | "--body"
+            | "--waiting"
+            | "--files"
+            | "--space"
+            | "--snapshot-past"
     )
 }
 

@@ -1,6 +1,6 @@
 //! Why the program can't begin.
 ghost use Rattle.std.specs.Prelude.{◌≡◌};
-ghost use Rattle.dav_serve.specs.Status.{status_refused};
+ghost use Rattle.dav_serve.specs.Status.{status_refused, unopened};
 
 use crate::options::OptionsError;
 use dav_live::{ListsError, OpenError};
@@ -25,9 +25,15 @@ pub enum Refusal {
     /// The folder had rules of access, and has none.
     #[error("{0}/access isn't there, and {0}/state.ruled says that there were rules (to let each user do everything, remove that too)")]
     Unruled(String),
-    /// The state of the folder can't be opened, or is in use.
-    #[error("the state in {0} can't be opened: the folder is missing, or another server has it")]
+    /// The state of the folder can't be opened.
+    #[error("the state in {0} can't be opened: the folder is missing, or what is there can't be read and written")]
     State(String),
+    /// Another process has the state of the folder.
+    #[error("the state in {0} is in use: another server has it")]
+    InUse(String),
+    /// The same, where who began this one waits for it.
+    #[error("the state is in use, and is waited for")]
+    Awaited,
     /// The state of the folder was kept under another prefix.
     #[error("the state in {0} was kept under another --prefix")]
     OtherPrefix(String),
@@ -78,6 +84,25 @@ pub fn refused(folder: String, prefix: String, error: OpenError) -> Refusal {
     }
 }
 
+// Why the files of a folder's state can't be opened; whether one in use is waited for.
+pub fn unopened(folder: String, waits: bool, error: sqlite_std_file::OpenError) -> Refusal
+    ensures { result ≡ unopened folder waits error }
+{
+    match error {
+        sqlite_std_file::OpenError::Busy => {
+            if waits {
+                Refusal::Awaited
+            } else {
+                Refusal::InUse(folder)
+            }
+        }
+        sqlite_std_file::OpenError::OutOfMemory => Refusal::Memory,
+        sqlite_std_file::OpenError::Io(_) | sqlite_std_file::OpenError::HotJournal => {
+            Refusal::State(folder)
+        }
+    }
+}
+
 // The exit status of a refusal.
 pub fn status_of(refusal: &Refusal) -> u8
     ensures { result ≡ status_refused refusal.now }
@@ -86,6 +111,7 @@ pub fn status_of(refusal: &Refusal) -> u8
         Refusal::Memory => 3,
         Refusal::Foreign(_) | Refusal::Gone(_) | Refusal::Damaged(_, _) => 4,
         Refusal::Cut(_) | Refusal::Disk(_) => 5,
+        Refusal::InUse(_) | Refusal::Awaited => 6,
         Refusal::Options(_)
         | Refusal::Prefix(_)
         | Refusal::Unread(_)

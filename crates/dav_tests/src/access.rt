@@ -1,6 +1,7 @@
 //! Published vectors, what other programs make, and lists of users, as rows of text.
 mod basic;
 mod crypt;
+mod limits;
 mod logins;
 mod principals;
 mod rules;

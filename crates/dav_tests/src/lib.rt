@@ -7,6 +7,8 @@ mod access;
 #[cfg(test)]
 mod kept;
 #[cfg(test)]
+mod limits;
+#[cfg(test)]
 mod presented;
 #[cfg(test)]
 mod requests;

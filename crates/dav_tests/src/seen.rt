@@ -65,7 +65,7 @@ anna REPORT / HTTP/1.1^^ -> 404
 // The rules of the rows.
 fn rules_of(alloc: Global) -> Result<Rules, Fail> {
     let users = Users::read(alloc, USERS)?;
-    Ok(file::read(alloc, RULES.as_bytes(), Some(&users))?)
+    Ok(file::read(alloc, RULES.as_bytes(), Some(&users))?.rules)
 }
 
 // A word, or none where it is `-`.

@@ -1,5 +1,5 @@
 -- What each thing that a keeper does carries from state to state, a turn carries.
-use Rattle.std.proofs.Common.{ℕ, Option, List, [], ◌∷◌, sym, subst}
+use Rattle.std.proofs.Common.{ℕ, Option, List, [], ◌∷◌, ◌++◌, sym, subst}
 use Rattle.http_server.specs.declared.response.Response.{Response}
 use Rattle.dav_wire.specs.declared.answer.Asked.{Asked}
 use Rattle.dav_wire.specs.declared.answer.Rejection.{Rejection}
@@ -55,4 +55,4 @@ module _ {S : Type 0} (k : Keeping S) (R : S → S → Type 0) (c : Carries k R)
   -- what each of its parts carries, a turn carries
   pub turn_carries : (input : List ℕ) (used : ℕ) (old new : TurnsView) (was now : S) (orders : List Order) → Turn k input used old was new now orders → R was now
   turn_carries input used old new was now orders t =
-      c.joined was t.last now (all_carries old.config t.hears.reports (server old.slots was) (server new.slots t.last) orders t.hears.heard) (c.kept t.last now t.keeps)
+      c.joined was t.last now (all_carries old.config (t.hears.long ++ t.hears.short) (server old.slots was) (server new.slots t.last) orders t.hears.heard) (c.kept t.last now t.keeps)

@@ -1,11 +1,12 @@
 -- Bytes are read as reports in one way.
-use Rattle.std.proofs.Common.{◌≡◌, ◌++◌, ◌≤◌, ◌+◌, ℕ, List, [], ◌∷◌, length, take, drop, get_or, length-append, append_assoc, refl, sym, ap, ◌∙◌, subst, arith, inl, inr}
+use Rattle.std.proofs.Common.{◌≡◌, ◌++◌, ◌<◌, ◌≤◌, ◌⊎◌, ◌+◌, ℕ, List, [], ◌∷◌, length, take, drop, get_or, length-append, append_assoc, refl, sym, ap, ◌∙◌, subst, arith, inl, inr}
 use Rattle.std.proofs.Math.Seq.{drop-append_seam, take-append_seam}
 use Rattle.std.proofs.lemmas.List.Elements.{All-head, All-tail}
 use Rattle.std.proofs.lemmas.Nat.{from_le_bytes-to_le_bytes_4, from_le_bytes-to_le_bytes_8}
 use Rattle.std.specs.Int.{w32, w64, from_le_bytes}
 use Rattle.std.specs.List.{flat_map}
 use Rattle.dav_turns.specs.Frames.{ReportView, IsHead, IsReport, BeginsWith, HasHead, IsPart, IsTooLong, ReadsReports, head_bytes, report_bytes}
+use Rattle.dav_turns.specs.Turns.{IsLeft}
 use Rattle.dav_turns.specs.Laws.{ReportsHaveOneReading}
 
 -- what two readings of a head agree on
@@ -94,6 +95,30 @@ one bytes (t ∷ ts) (u ∷ us) x y r q p o =
     let others = one (flat_map report_bytes ts ++ x) ts us x y (later t ts x bytes r)
     (subst (λ b. ReadsReports b us y) (sym same.1) (later u us y bytes q)) p o in
     (cc (same.0, others.0), others.1)
+
+-- where they begin with no whole report there is none
+pub none_begun : (bytes : List ℕ) → IsPart bytes ⊎ IsTooLong bytes → (t : ReportView) → BeginsWith bytes t → ⊥
+none_begun bytes (inl p) t x = whole bytes t x p
+none_begun bytes (inr many) t x = few bytes t x many
+
+-- bytes that begin with a report have more than what is left behind it
+shorter : (bytes : List ℕ) (t : ReportView) (ts : List ReportView) (rest : List ℕ) → ReadsReports bytes (t ∷ ts) rest → length rest < length bytes
+shorter bytes t ts rest r =
+    omega (
+      arith,
+      ap length r.bytes_are,
+      length-append (report_bytes t ++ flat_map report_bytes ts) rest,
+      length-append (report_bytes t) (flat_map report_bytes ts),
+      length-append (head_bytes t.slot t.kind (length t.bytes) t.seconds t.date) t.bytes,
+    )
+
+-- some report was heard, where the bytes begin with one
+pub some_heard : (bytes : List ℕ) (t : ReportView) (used : ℕ) (long short : List ReportView) (rest : List ℕ) → BeginsWith bytes t
+    → ReadsReports bytes (long ++ short) rest → IsLeft short rest → used + length rest ≡ length bytes → 0 < used
+some_heard bytes t used [] [] rest x r (inl p) is = absurd (whole rest t (subst (λ b. BeginsWith b t) r.bytes_are x) p)
+some_heard bytes t used [] [] rest x r (inr more) is = absurd (more.0 refl)
+some_heard bytes t used [] (s ∷ short) rest x r left is = omega (arith, is, shorter bytes s short rest r)
+some_heard bytes t used (l ∷ long) short rest x r left is = omega (arith, is, shorter bytes l (long ++ short) rest r)
 
 pub one_reading : ReportsHaveOneReading
 one_reading = record { one = one; whole = whole; few = few; part = part }

@@ -7,6 +7,7 @@ use Rattle.std.proofs.lemmas.List.Elements.{All-append, All-cons, All-head, All-
 use Rattle.std.proofs.lemmas.List.Folds.{list_any-append}
 use Rattle.std.specs.List.{All, filter, filter_map, flat_map, list_any, prefix_len}
 use Rattle.dav_wire.specs.declared.state.Config.{Config}
+use Rattle.dav_turns.proofs.Readings.{some_heard}
 use Rattle.dav_turns.specs.declared.config.TurnsConfig.{TurnsConfig}
 use Rattle.dav_wire.specs.Exchange.{Act, judged, answered, Call, Judgement, Chain, calls_in, judgements_in}
 use Rattle.dav_wire.specs.History.{Acts, History, IsServed, new_history, after_taken}
@@ -48,13 +49,15 @@ module _ {S : Type 0} (k : Keeping S) (config : TurnsConfig) where
 pub turns_happen : {S : Type 0} (k : Keeping S) → TurnsHappen k
 turns_happen k = record {
   turns = λ reports used old was new now orders x. (
-    x.hears.reports,
+    x.hears.long,
+    x.hears.short,
     x.hears.rest,
     x.hears.reads,
-    x.hears.part,
-    turn_happens k old.config x.hears.reports (server old.slots was) (server new.slots x.last) now orders x.hears.heard x.keeps,
+    x.hears.left,
+    turn_happens k old.config (x.hears.long ++ x.hears.short) (server old.slots was) (server new.slots x.last) now orders x.hears.heard x.keeps,
   );
   join = join k;
+  goes_on = λ input t used old was new now orders begins x. some_heard input t used x.hears.long x.hears.short x.hears.rest begins x.hears.reads x.hears.left x.hears.used_is;
 }
 
 -- ---- pieces

@@ -1,5 +1,5 @@
 -- One report after another.
-use Rattle.std.proofs.Common.{◌≡◌, ◌≢◌, ℕ, zero, suc, ◌+◌, ◌<◌, List, [], ◌∷◌, ◌++◌, ◌-◌, length, take, drop, length-drop, get_or, Option, Some, None, Result, Ok, Err, OnOk, refl, sym, ap, ◌∙◌, subst, append_assoc, append-nil, arith}
+use Rattle.std.proofs.Common.{◌≡◌, ◌≢◌, ℕ, zero, suc, ◌+◌, ◌<◌, ◌⊎◌, inl, inr, Bool, true, false, not, IsTrue, IsFalse, All, List, [], ◌∷◌, ◌++◌, ◌-◌, length, length-append, take, drop, length-drop, get_or, Option, Some, None, Result, Ok, Err, OnOk, refl, sym, ap, ◌∙◌, subst, append_assoc, append-nil, arith}
 use Rattle.std.proofs.lemmas.Bool.{ne_eqb, cond-false}
 use Rattle.std.proofs.lemmas.List.{take_all}
 use Rattle.std.proofs.lemmas.List.Concat.{flat_map-append}
@@ -9,7 +9,7 @@ use Rattle.std.specs.List.{flat_map}
 use Rattle.dav_turns.specs.declared.config.TurnsConfig.{TurnsConfig}
 use Rattle.dav_turns.specs.Connections.{ConnectionView, Slots}
 use Rattle.dav_turns.specs.Frames.{Order, ReportView, IsReport, BeginsWith, ReadsReports, order_bytes, report_bytes}
-use Rattle.dav_turns.specs.Turns.{Keeping, Server, Heard, HeardAll, IsIn, slot_after, orders_after}
+use Rattle.dav_turns.specs.Turns.{Keeping, Server, Heard, HeardAll, IsIn, may_take_long, slot_after, orders_after}
 
 -- ---- orders
 
@@ -67,6 +67,60 @@ reads_on bytes rest after ts t reads begins is =
           ∙ sym (append_assoc (flat_map report_bytes ts) (report_bytes t) after)
           ∙ ap (λ b. b ++ after) (ap (λ b. flat_map report_bytes ts ++ b) (sym (append-nil (report_bytes t))) ∙ sym (flat_map-append report_bytes ts (t ∷ [])));
     }
+
+-- the same reports, said otherwise
+pub reads_as : (bytes rest : List ℕ) (ts us : List ReportView) → us ≡ ts → ReadsReports bytes ts rest → ReadsReports bytes us rest
+reads_as bytes rest ts us same reads = subst (λ (ts : List ReportView). ReadsReports bytes ts rest) (sym same) reads
+
+-- reports that may take long, and then such as don't, and whether there are any of these
+pub record IsRun (long short : List ReportView) (is_short : Bool) : Type 0 where
+  pub are_long : All (λ t. IsTrue (may_take_long t)) long
+  pub are_short : All (λ t. IsFalse (may_take_long t)) short
+  pub none : IsFalse is_short → short ≡ []
+  pub some : IsTrue is_short → short ≢ []
+
+pub no_run : IsRun [] [] false
+no_run = record {
+  are_long = All-nil (λ t. IsTrue (may_take_long t));
+  are_short = All-nil (λ t. IsFalse (may_take_long t));
+  none = λ _. refl;
+  some = λ (wrong : false ≡ true). cc;
+}
+
+-- and one report more
+pub record RunsOn (long short : List ReportView) (t : ReportView) (is_short : Bool) : Type 0 where
+  pub longs : List ReportView
+  pub shorts : List ReportView
+  pub are : longs ++ shorts ≡ (long ++ short) ++ t ∷ []
+  pub run : IsRun longs shorts is_short
+
+pub runs_on : (long short : List ReportView) (t : ReportView) (is_short is_long : Bool) → is_long ≡ may_take_long t
+    → ((is_long ≡ true) × (is_short ≡ false)) ⊎ (is_long ≡ false) → IsRun long short is_short → RunsOn long short t (not is_long)
+runs_on long short t is_short true is (inr other) run = absurd (let wrong : true ≡ false = other in cc)
+runs_on long short t is_short true is (inl (_, others)) run = record {
+  longs = long ++ t ∷ [];
+  shorts = [];
+  are = append-nil (long ++ t ∷ []) ∙ ap (λ (ts : List ReportView). ts ++ t ∷ []) (sym (ap (λ (ts : List ReportView). long ++ ts) (run.none others) ∙ append-nil long));
+  run = record {
+    are_long = All-append (λ t. IsTrue (may_take_long t)) long (t ∷ []) run.are_long
+        (All-cons (λ t. IsTrue (may_take_long t)) t [] (sym is) (All-nil (λ t. IsTrue (may_take_long t))));
+    are_short = All-nil (λ t. IsFalse (may_take_long t));
+    none = λ _. refl;
+    some = λ (wrong : false ≡ true). cc;
+  };
+}
+runs_on long short t is_short false is others run = record {
+  longs = long;
+  shorts = short ++ t ∷ [];
+  are = sym (append_assoc long short (t ∷ []));
+  run = record {
+    are_long = run.are_long;
+    are_short = All-append (λ t. IsFalse (may_take_long t)) short (t ∷ []) run.are_short
+        (All-cons (λ t. IsFalse (may_take_long t)) t [] (sym is) (All-nil (λ t. IsFalse (may_take_long t))));
+    none = λ (wrong : true ≡ false). cc;
+    some = λ _ e. omega (arith, ap length e, length-append short (t ∷ []));
+  };
+}
 
 module _ {S : Type 0} (k : Keeping S) (config : TurnsConfig) where
   pub hears_on : (ts : List ReportView) (t : ReportView) (old mid new : Server S) (xs ys : List Order)

@@ -1,5 +1,5 @@
 -- What the contracts of turns mean for the client of a slot, over any number of turns.
-use Rattle.std.specs.Prelude.{◌≡◌, ℕ, ◌≤◌, ◌⊎◌, ◌&&◌, ◌==◌, Bool, List, [], ◌∷◌, ◌++◌, map, length, Option, Some, None, IsFalse}
+use Rattle.std.specs.Prelude.{◌≡◌, ℕ, ◌<◌, ◌≤◌, ◌⊎◌, ◌&&◌, ◌==◌, Bool, List, [], ◌∷◌, ◌++◌, map, length, Option, Some, None, IsFalse}
 use Rattle.std.specs.List.{All, before_first, filter, filter_map, flat_map}
 use Rattle.dav_wire.specs.declared.state.Config.{Config}
 use Rattle.dav_wire.specs.Exchange.{Call, Judgement}
@@ -9,7 +9,7 @@ use Rattle.dav_turns.specs.declared.config.TurnsConfig.{TurnsConfig}
 use Rattle.dav_turns.specs.declared.frames.TheConstants.{OPENED, GOT, READ, READ_HEAD, READ_BODY}
 use Rattle.dav_turns.specs.Connections.{ConnectionView, Slots, TurnsView}
 use Rattle.dav_turns.specs.Frames.{Order, ReportView, BeginsWith, IsPart, IsTooLong, ReadsReports}
-use Rattle.dav_turns.specs.Turns.{Keeping, Server, server, Heard, GoesOn, IsIn, Turn, held_by, new_turns}
+use Rattle.dav_turns.specs.Turns.{Keeping, Server, server, Heard, GoesOn, IsIn, IsLeft, Turn, held_by, new_turns}
 
 -- what happens to a server: a report is heard, or a turn ends, and what was answered is kept
 pub data Event : Type 0 where
@@ -35,16 +35,21 @@ Happens {S} k config (commit ∷ events) old new orders =
 abbrev pub turn_events : List ReportView → List Event
 turn_events reports = map report reports ++ commit ∷ []
 
--- Turns are such events, and events go on from events: so all turns of a server are.
+-- Turns are such events, and events go on from events: so all turns of a server are. A turn hears
+-- some, where the bytes begin with a report: so turns hear each whole report that came.
 pub record TurnsHappen {S : Type 0} (k : Keeping S) : Type 0 where
   pub turns : (input : List ℕ) (used : ℕ) (old : TurnsView) (was : S) (new : TurnsView) (now : S)
       (orders : List Order) → Turn k input used old was new now orders
-      → (reports : List ReportView) × (rest : List ℕ) × ReadsReports input reports rest
-      × IsPart rest × Happens k old.config (turn_events reports) (server old.slots was)
+      → (long : List ReportView) × (short : List ReportView) × (rest : List ℕ)
+      × ReadsReports input (long ++ short) rest × IsLeft short rest
+      × Happens k old.config (turn_events (long ++ short)) (server old.slots was)
       (server new.slots now) orders
   pub join : (config : TurnsConfig) (xs ys : List Event) (old mid new : Server S)
       (first later : List Order) → Happens k config xs old mid first
       → Happens k config ys mid new later → Happens k config (xs ++ ys) old new (first ++ later)
+  pub goes_on : (input : List ℕ) (t : ReportView) (used : ℕ) (old : TurnsView) (was : S)
+      (new : TurnsView) (now : S) (orders : List Order) → BeginsWith input t
+      → Turn k input used old was new now orders → 0 < used
 
 -- ---- one slot
 

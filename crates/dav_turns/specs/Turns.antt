@@ -1,6 +1,6 @@
 -- What a report does to the connections and to what answers their requests, and what a turn does.
-use Rattle.std.specs.Prelude.{◌≡◌, ◌≢◌, ℕ, ◌+◌, ◌-◌, ◌<◌, ◌≤◌, ◌⊎◌, ◌||◌, nat_lt, List, [], ◌∷◌, ◌++◌, length, take, set, get_or, replicate, Option, Some, None, if◌then◌else◌, ◌==◌}
-use Rattle.std.specs.List.{flat_map, sum_by}
+use Rattle.std.specs.Prelude.{◌≡◌, ◌≢◌, ℕ, ◌+◌, ◌-◌, ◌<◌, ◌≤◌, ◌⊎◌, ◌||◌, ◌&&◌, nat_lt, Bool, IsTrue, IsFalse, List, [], ◌∷◌, ◌++◌, All, length, take, set, get_or, replicate, codes, Option, Some, None, if◌then◌else◌, ◌==◌}
+use Rattle.std.specs.List.{flat_map, starts_with, sum_by}
 use Rattle.http_server.specs.declared.response.Response.{Response}
 use Rattle.dav_wire.specs.declared.answer.Asked.{Asked}
 use Rattle.dav_wire.specs.declared.answer.Rejection.{Rejection}
@@ -225,16 +225,37 @@ pub data IsMisplaced (slots : Slots) (t : ReportView) : Type 0 where
 
 -- ---- a turn
 
--- The first bytes, so many, are reports that were heard one after another; at most a part of
--- another one follows.
-pub record HearsAll {S : Type 0} (k : Keeping S) (config : TurnsConfig) (input : List ℕ) (used : ℕ)
+-- whether bytes begin a request that may take long, by its method: a listing, a copy, a move or a
+-- removal; or the element tree of a listing, whose head came before it
+abbrev pub begins_long : List ℕ → Bool
+begins_long bytes =
+    starts_with (λ a b. a == b) bytes (codes "PROPFIND ") || (starts_with (λ a b. a == b) bytes (codes "COPY ")
+    || (starts_with (λ a b. a == b) bytes (codes "MOVE ") || (starts_with (λ a b. a == b) bytes (codes "DELETE ")
+    || starts_with (λ a b. a == b) bytes (codes "<"))))
+
+-- whether a report may take long
+abbrev pub may_take_long : ReportView → Bool
+may_take_long t = (t.kind == GOT) && begins_long t.bytes
+
+-- What is left where a turn ends, after these reports that don't take long: at most a part of
+-- another report; or, where there were some, one that may take long.
+abbrev pub IsLeft : List ReportView → List ℕ → Type 0
+IsLeft short rest = IsPart rest
+    ⊎ ((short ≢ []) × ((next : ReportView) × BeginsWith rest next × IsTrue (may_take_long next)))
+
+-- The first bytes, so many, are reports that were heard one after another: first those that may
+-- take long, and then those that don't, as many of them as there are.
+pub record HearsSome {S : Type 0} (k : Keeping S) (config : TurnsConfig) (input : List ℕ) (used : ℕ)
     (old new : Server S) (orders : List Order) : Type 0 where
-  pub reports : List ReportView
+  pub long : List ReportView
+  pub short : List ReportView
+  pub are_long : All (λ t. IsTrue (may_take_long t)) long
+  pub are_short : All (λ t. IsFalse (may_take_long t)) short
   pub rest : List ℕ
-  pub reads : ReadsReports input reports rest
-  pub part : IsPart rest
+  pub reads : ReadsReports input (long ++ short) rest
+  pub left : IsLeft short rest
   pub used_is : used + length rest ≡ length input
-  pub heard : HeardAll k config reports old new orders
+  pub heard : HeardAll k config (long ++ short) old new orders
 
 -- The first bytes are reports that were heard one after another; after them there is no report, or
 -- one that doesn't fit.
@@ -249,12 +270,13 @@ pub record IsBroken {S : Type 0} (k : Keeping S) (config : TurnsConfig) (input :
   pub broken : IsTooLong rest
       ⊎ ((next : ReportView) × BeginsWith rest next × IsMisplaced new.slots next)
 
--- A turn: each whole report was heard, and then all that was answered was kept.
+-- A turn: reports were heard, and then all that was answered was kept. So what was answered
+-- doesn't wait for what may take long, and comes after it.
 pub record Turn {S : Type 0} (k : Keeping S) (input : List ℕ) (used : ℕ) (old : TurnsView)
     (was : S) (new : TurnsView) (now : S) (orders : List Order) : Type 0 where
   pub last : S
   pub hears :
-      HearsAll k old.config input used (server old.slots was) (server new.slots last) orders
+      HearsSome k old.config input used (server old.slots was) (server new.slots last) orders
   pub keeps : k.kept last now
 
 -- these orders were written after the bytes

@@ -1,7 +1,7 @@
 //! The reports of the front and the orders to it. Numbers are little-endian.
-ghost use Rattle.std.specs.Prelude.{◌≡◌, ◌<◌, ◌^◌, ◌++◌, ◌∷◌, [], OnOk, length};
+ghost use Rattle.std.specs.Prelude.{◌≡◌, ◌<◌, ◌^◌, ◌++◌, ◌∷◌, [], IsTrue, IsFalse, OnOk, length};
 ghost use Rattle.std.specs.Int.{w32, w64, to_le_bytes};
-ghost use Rattle.dav_turns.specs.Frames.{Begins, IsHead, head_bytes, order_bytes};
+ghost use Rattle.dav_turns.specs.Frames.{Begins, BeginsWith, IsHead, ReportView, head_bytes, order_bytes};
 
 use std::alloc::AllocError;
 
@@ -93,6 +93,19 @@ pub fn next_in(input: &[u8]) -> Next<'_>
         date: head.date,
         bytes: &rest[..head.len],
     })
+}
+
+/// Whether bytes begin with a whole report.
+#[tactic(auto, using(crate::proofs::Readings::none_begun))]
+pub fn has_report(bytes: &[u8]) -> bool
+    ensures some { IsTrue result → (t : ReportView) × BeginsWith bytes.now t }
+    ensures none { IsFalse result → (t : ReportView) → BeginsWith bytes.now t → ⊥ }
+{
+    match next_in(bytes) {
+        Next::Whole(_) => true,
+        Next::Part => false,
+        Next::Wrong => false,
+    }
 }
 
 // Reads the head of a report.

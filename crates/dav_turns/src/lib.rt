@@ -16,6 +16,7 @@ mod tests;
 mod turns;
 
 pub use config::TurnsConfig;
+pub use frames::has_report;
 pub use keeper::{Keeper, TurnError};
 pub use laws::{bodies_fit, orders_answer_what_came, reads_are_at_rest, reports_have_one_reading};
 pub use turns::Turns;

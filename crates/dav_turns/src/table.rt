@@ -3,7 +3,7 @@ ghost use Rattle.std.specs.Prelude.{◌≡◌, ◌++◌, ◌<◌, ◌≢◌, Lis
 ghost use Rattle.std.specs.Option.{option_copied};
 ghost use Rattle.dav_turns.specs.declared.keeper.TurnError.TheVariants.{Pipe};
 ghost use Rattle.dav_turns.specs.Frames.{Order, report_view, order_bytes};
-ghost use Rattle.dav_turns.specs.Turns.{keeping, server, Counts, Opens, Ends, GoesOn, Heard, HearsAll, IsEmpty, IsFree, IsMisplaced, IsBroken, orders_after, new_turns, room_for};
+ghost use Rattle.dav_turns.specs.Turns.{keeping, server, Counts, Opens, Ends, GoesOn, Heard, HearsSome, IsEmpty, IsFree, IsMisplaced, IsBroken, orders_after, may_take_long, begins_long, new_turns, room_for};
 
 use crate::config::TurnsConfig;
 use crate::connection::Connection;
@@ -46,15 +46,16 @@ impl Table {
         })
     }
 
-    /// Hears each whole report, one after another. The count of their bytes.
-    pub fn hear_all<K: Keeper>(
+    /// Hears reports, one after another, until no whole one follows, or one that may take long
+    /// follows one that doesn't. The count of their bytes.
+    pub fn hear_some<K: Keeper>(
         &mut self,
         keeper: &mut K,
         reports: &[u8],
         orders: &mut Vec<u8>,
     ) -> Result<usize, TurnError>
         requires { Counts self.old.config self.old.waiting self.old.slots.items }
-        ensures hears { IfOk result (λ used. (ordered : List Order) × HearsAll
+        ensures hears { IfOk result (λ used. (ordered : List Order) × HearsSome
             (keeping K.judges K.answers K.greeted K.listed K.placed K.passed K.marked K.kept)
             self.old.config reports.now used (server self.old.slots.items keeper.old)
             (server self.new.slots.items keeper.new) ordered
@@ -66,12 +67,18 @@ impl Table {
         ensures counts { Counts self.new.config self.new.waiting self.new.slots.items }
     {
         let mut rest = reports;
+        let mut is_short = false;
         loop {
             match next_in(rest) {
                 Next::Part => return Ok(reports.len() - rest.len()),
                 Next::Wrong => return Err(TurnError::Pipe),
                 Next::Whole(report) => {
+                    let is_long = may_take_long(&report);
+                    if is_long && is_short {
+                        return Ok(reports.len() - rest.len());
+                    }
                     self.hear(keeper, &report, orders)?;
+                    is_short = !is_long;
                     rest = &rest[HEAD + report.bytes.len()..];
                 }
             }
@@ -200,4 +207,22 @@ fn is_taken(place: &Option<Connection>) -> bool
     ensures taken { IsTrue result → place.now ≢ None }
 {
     place.is_some()
+}
+
+// Whether a report may take long.
+fn may_take_long(report: &Report<'_>) -> bool
+    ensures { result ≡ may_take_long (report_view report.now) }
+{
+    report.kind == GOT && begins_long(report.bytes)
+}
+
+// Whether bytes begin a request that may take long, or an element tree.
+fn begins_long(bytes: &[u8]) -> bool
+    ensures { result ≡ begins_long bytes.now }
+{
+    bytes.starts_with(b"PROPFIND ")
+        || bytes.starts_with(b"COPY ")
+        || bytes.starts_with(b"MOVE ")
+        || bytes.starts_with(b"DELETE ")
+        || bytes.starts_with(b"<")
 }

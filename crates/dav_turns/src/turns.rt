@@ -68,7 +68,7 @@ impl Turns {
             self.old.config reports.now (server self.old.slots keeper.old) }
         ensures config { self.new.config ≡ self.old.config }
     {
-        let used = self.table.hear_all(keeper, reports, orders)?;
+        let used = self.table.hear_some(keeper, reports, orders)?;
         keeper.commit()?;
         Ok(used)
     }

@@ -1,6 +1,7 @@
 //! Laws of what a request may change.
 ghost use Rattle.dav_confined.specs.Confined.{SparedPathsStay, SparedPathsStayCut, ReadingSparesPaths, PutSparesOthers, MkcolSparesOthers, ProppatchSparesOthers, LockSparesOthers, UnlockSparesPaths, DeleteSparesOthers, CopyMoveSparesOthers, DeleteKeepsOtherLocks, CopyMoveKeepsOtherLocks, UnlockKeepsOtherLocks};
 ghost use Rattle.dav_confined.specs.ConfinedSteps.{StepsLeaveOthers, StepsLeaveOthersCut, StepsKeepOtherLocks, RunsLeaveOthers};
+ghost use Rattle.dav_confined.specs.Reached.{KeepsOffUnreached, UnreadKeepsOff};
 
 /// A plan that spares paths leaves their content, whatever the store refuses, whatever is locked, and also where memory runs out in it.
 pub fn spared_paths_stay()
@@ -39,4 +40,10 @@ pub fn requests_change_what_they_name()
     ensures cut { StepsLeaveOthersCut }
     ensures locks { StepsKeepOtherLocks }
     ensures run { RunsLeaveOthers }
+{}
+
+/// What is asked of a head tells which paths a request reaches (`reaches`): it keeps off all others, and one that isn't read off all.
+pub fn requests_keep_off_what_they_do_not_reach()
+    ensures asked { KeepsOffUnreached }
+    ensures unread { UnreadKeepsOff }
 {}

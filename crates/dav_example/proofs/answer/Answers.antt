@@ -1,4 +1,4 @@
-use Rattle.std.proofs.Common.{◌≡◌, List, ℕ, sym, subst}
+use Rattle.std.proofs.Common.{◌≡◌, List, ℕ, None, sym, subst}
 use Rattle.http_server.specs.declared.response.Response.{Response}
 use Rattle.dav_http.specs.Presented.{IsShown}
 use Rattle.dav_http.specs.Room.{room_of}
@@ -17,8 +17,8 @@ returns c =
     let step : IsStepFor head c.args.body anna old reply new = subst (λ (body : List ℕ). IsStepFor head body anna old reply new) c.in_ok-clone.ensures.cases cloned in
     elim c.match-read.branch [
       | in-Some+in_ok-present-in-Some w ↦
-          let is : IsShown w.in-Some.read c.args.body 1000000000 (room_of new 1000000) reply w.present.new.response =
-          subst (λ (body : List ℕ). IsShown w.in-Some.read body 1000000000 (room_of new 1000000) reply w.present.new.response) w.as_slice-bytes.ensures w.in_ok-present-in-Some.ensures in
+          let is : IsShown w.in-Some.read c.args.body 1000000000 (room_of new None 1000000) reply w.present.new.response =
+          subst (λ (body : List ℕ). IsShown w.in-Some.read body 1000000000 (room_of new None 1000000) reply w.present.new.response) w.as_slice-bytes.ensures w.in_ok-present-in-Some.ensures in
           subst (λ (sent : Response). IsAnswered old head c.args.body sent new) (sym w.response-is) (shown reply w.in-Some.read step w.in-Some.ensures is)
       | in-None+in_ok-send-in-None w ↦
           subst (λ (sent : Response). IsAnswered old head c.args.body sent new) (sym w.response-is) (headless reply step w.in-None.ensures w.in_ok-send-in-None.ensures)

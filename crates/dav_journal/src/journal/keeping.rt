@@ -26,10 +26,10 @@ impl<D: Disk + Drop> Journal<D> {
         ensures kept { (contents : List (List ℕ)) → IsKept D.Disk self.old contents
             → IsKept D.Disk self.new contents }
     {
-        let wanted = self.end.saturating_add(HEAD + 1).saturating_add(count);
-        if wanted <= self.len {
+        if self.fits(count) {
             return Ok(());
         }
+        let wanted = self.end.saturating_add(HEAD + 1).saturating_add(count);
         if self.grow(wanted.saturating_add(ROOM))? {
             return Ok(());
         }

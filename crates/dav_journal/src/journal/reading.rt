@@ -6,7 +6,7 @@ ghost use Rattle.dav_journal.specs.File.{IsBegun, Recovers};
 ghost use Rattle.dav_journal.specs.Mark.{IsLastMark, IsMark, IsMarkPlace, NoneMarkedPast};
 ghost use Rattle.dav_journal.specs.declared.error.JournalError.TheVariants.{Damaged};
 ghost use Rattle.dav_journal.specs.Error.{IsNoDamage};
-ghost use Rattle.dav_journal.specs.Journal.{HasRead, IsBare, IsClean, IsCleared, IsKept, IsOpened, IsReading, IsShut, IsSynced, IsWrittenBlock, LeavesAtMost, LeavesEither, LeavesOnly, OnlyReads, Stays, blocks_end, blocks_len, disk_of, file_of};
+ghost use Rattle.dav_journal.specs.Journal.{HasRead, IsBare, IsClean, IsCleared, IsKept, IsOpened, IsReading, IsShut, IsSynced, IsWrittenBlock, LeavesAtMost, LeavesEither, LeavesOnly, OnlyLooks, OnlyReads, Stays, blocks_end, blocks_len, disk_of, file_of};
 ghost use Rattle.dav_journal.specs.Write.{HasZeros, KeepsBelow};
 
 use crate::block::{HEAD, OPEN, is_head, len_in};
@@ -140,9 +140,10 @@ impl<D: Disk + Drop> Journal<D> {
     }
 
     // The gate at the end of the blocks.
-    fn gate(&mut self) -> Result<u8, JournalError>
+    pub(super) fn gate(&mut self) -> Result<u8, JournalError>
         ensures sound { IfErr result IsNoDamage }
         ensures stays { Stays D.Disk self.old self.new }
+        ensures looks { OnlyLooks D.Disk self.old self.new }
         ensures gate { IfOk result (λ gate. IsClean D.Disk self.new
             → slice_index (file_of D.Disk self.old) (blocks_end self.old) ≡ gate) }
     {

@@ -4,10 +4,18 @@ use crate::error::JournalError;
 use crate::journal::Journal;
 use sqlite_disk::{Crash, Disk, Fuse, Memory};
 use std::alloc::Global;
+use std::mem;
 use std::test::Fail;
 
 /// What is kept in each test.
 const CONTENTS: [&[u8]; 3] = [b"one", b"", b"\0three\0"];
+
+impl<D: Disk + Drop> Journal<D> {
+    /// Changes disks with another journal.
+    pub fn swap_disks(&mut self, other: &mut Journal<D>) {
+        mem::swap(&mut self.disk, &mut other.disk);
+    }
+}
 
 // Reads what a journal has: how many of the contents, in order. An error where it has anything else.
 fn read<D: Disk + Drop>(alloc: Global, journal: &mut Journal<D>) -> Result<usize, JournalError> {

@@ -4,8 +4,8 @@ ghost use Rattle.std.specs.Int.{w64, to_be_bytes};
 ghost use Rattle.sqlite_disk.specs.Disk.{Holds};
 ghost use Rattle.dav_journal.specs.File.{Recovers};
 ghost use Rattle.dav_journal.specs.declared.error.JournalError.TheVariants.{Damaged};
-ghost use Rattle.dav_journal.specs.Journal.{HasRead, IsClean, IsReading, OnlyReads, blocks_end, blocks_len, disk_of, file_of};
-ghost use Rattle.dav_journal.specs.Pair.{HasFirst, HasReadPair, IsCleanPair, IsKeptPair, IsMixingPair, IsReadingPair, OnlyReadsPair, PairLeaves, PairLeavesOnly, PairRecovers, PairStandsFor, StaysPair, WereOpened, counting, generation_of, spare_of};
+ghost use Rattle.dav_journal.specs.Journal.{HasRead, IsClean, IsReading, IsSynced, OnlyReads, blocks_end, blocks_len, disk_of, file_of};
+ghost use Rattle.dav_journal.specs.Pair.{HasFirst, HasReadPair, IsCleanPair, IsKeptPair, IsMixingPair, IsOwnPair, IsReadingPair, OnlyLooksPair, OnlyReadsPair, PairLeaves, PairLeavesOnly, PairRecovers, PairStandsFor, StaysPair, WereOpened, counting, generation_of, spare_of};
 
 use crate::block::START;
 use crate::error::JournalError;
@@ -32,29 +32,82 @@ impl<D: Disk + Drop> Pair<D> {
         self.spare.clear()
     }
 
+    // Sees that no other opening went on with the files: `Passed` where one did.
+    fn look(&mut self) -> Result<(), JournalError>
+        ensures looks { OnlyLooksPair D.Disk self.old self.new }
+        ensures own { OnOk result (IsCleanPair D.Disk self.new → IsOwnPair D.Disk self.old) }
+    {
+        self.counts.see_own(self.generation.to_be_bytes())
+    }
+
     /// Makes room for a block of so many bytes. `NoRoom` where the disk has none; the pair is as it
-    /// was then.
+    /// was then. `Passed` where another opening went on with the files, which are only read then.
     pub fn room(&mut self, count: usize) -> Result<(), JournalError>
         ensures clean { IsCleanPair D.Disk self.new → IsCleanPair D.Disk self.old }
         ensures kept { (contents : List (List ℕ)) → IsKeptPair D.Disk self.old contents
             → IsKeptPair D.Disk self.new contents }
+        ensures passed { IsCleanPair D.Disk self.new
+            → OnlyReadsPair D.Disk self.old self.new ⊎ IsOwnPair D.Disk self.old }
     {
-        self.counts.room(count.saturating_add(GENERATION))
+        let count = count.saturating_add(GENERATION);
+        if self.counts.fits(count) {
+            return Ok(());
+        }
+        self.look()?;
+        self.make_room(count)
     }
 
-    /// Makes room to begin anew with a content of so many bytes. `NoRoom` where the disk has none;
-    /// the pair is as it was then.
-    pub fn room_to_renew(&mut self, count: usize) -> Result<(), JournalError>
+    // Makes room in the file that counts.
+    fn make_room(&mut self, count: usize) -> Result<(), JournalError>
         ensures clean { IsCleanPair D.Disk self.new → IsCleanPair D.Disk self.old }
         ensures kept { (contents : List (List ℕ)) → IsKeptPair D.Disk self.old contents
             → IsKeptPair D.Disk self.new contents }
     {
-        self.spare.room(count.saturating_add(GENERATION))
+        self.counts.room(count)
     }
 
-    /// Writes a block of this content after the others, and makes sure that it is kept. After an
-    /// error, but for `Memory`, nothing more may be asked.
+    /// Makes room to begin anew with a content of so many bytes. `NoRoom` where the disk has none;
+    /// the pair is as it was then. `Passed` as that of `room`.
+    pub fn room_to_renew(&mut self, count: usize) -> Result<(), JournalError>
+        ensures clean { IsCleanPair D.Disk self.new → IsCleanPair D.Disk self.old }
+        ensures kept { (contents : List (List ℕ)) → IsKeptPair D.Disk self.old contents
+            → IsKeptPair D.Disk self.new contents }
+        ensures passed { IsCleanPair D.Disk self.new
+            → OnlyReadsPair D.Disk self.old self.new ⊎ IsOwnPair D.Disk self.old }
+    {
+        self.look()?;
+        self.make_room_to_renew(count.saturating_add(GENERATION))
+    }
+
+    // Makes room in the other file.
+    fn make_room_to_renew(&mut self, count: usize) -> Result<(), JournalError>
+        ensures clean { IsCleanPair D.Disk self.new → IsCleanPair D.Disk self.old }
+        ensures kept { (contents : List (List ℕ)) → IsKeptPair D.Disk self.old contents
+            → IsKeptPair D.Disk self.new contents }
+    {
+        self.spare.room(count)
+    }
+
+    /// Writes a block of this content after the others, and makes sure that it is kept. `Passed`
+    /// where another opening went on with the files, which are only read then. After an error, but
+    /// for `Memory`, nothing more may be asked.
     pub fn keep(&mut self, alloc: Global, content: &[u8]) -> Result<(), JournalError>
+        ensures clean { IsCleanPair D.Disk self.new → IsCleanPair D.Disk self.old }
+        ensures kept { OnOk result ((contents : List (List ℕ))
+            → IsKeptPair D.Disk self.old contents
+            → IsKeptPair D.Disk self.new (contents ++ content.now ∷ [])) }
+        ensures any_moment { (contents : List (List ℕ)) → IsKeptPair D.Disk self.old contents
+            → PairLeaves D.Disk self.new contents (contents ++ content.now ∷ []) }
+        ensures own { OnOk result (IsCleanPair D.Disk self.new → IsOwnPair D.Disk self.old) }
+        ensures passed { IsCleanPair D.Disk self.new
+            → OnlyReadsPair D.Disk self.old self.new ⊎ IsOwnPair D.Disk self.old }
+    {
+        self.look()?;
+        self.add(alloc, content)
+    }
+
+    // Writes a block after the others.
+    fn add(&mut self, alloc: Global, content: &[u8]) -> Result<(), JournalError>
         ensures clean { IsCleanPair D.Disk self.new → IsCleanPair D.Disk self.old }
         ensures kept { OnOk result ((contents : List (List ℕ))
             → IsKeptPair D.Disk self.old contents
@@ -70,21 +123,53 @@ impl<D: Disk + Drop> Pair<D> {
     }
 
     /// Makes sure, in a quiet moment, that the mark of the last block is kept too, as the next
-    /// `keep` does otherwise. After an error nothing more may be asked.
+    /// `keep` does otherwise. `Passed` as that of `keep`. After an error nothing more may be asked.
     pub fn keep_mark(&mut self) -> Result<(), JournalError>
         ensures clean { IsCleanPair D.Disk self.new → IsCleanPair D.Disk self.old }
         ensures kept { OnOk result ((contents : List (List ℕ))
             → IsKeptPair D.Disk self.old contents → IsKeptPair D.Disk self.new contents) }
         ensures any_moment { (contents : List (List ℕ)) → IsKeptPair D.Disk self.old contents
             → PairLeavesOnly D.Disk self.new contents }
+        ensures synced { OnOk result (IsSynced D.Disk (counting self.new)) }
+        ensures own { OnOk result (IsCleanPair D.Disk self.new → IsOwnPair D.Disk self.old) }
+    {
+        self.look()?;
+        self.sync_mark()
+    }
+
+    // Makes sure that what was written to the file that counts is kept.
+    fn sync_mark(&mut self) -> Result<(), JournalError>
+        ensures clean { IsCleanPair D.Disk self.new → IsCleanPair D.Disk self.old }
+        ensures kept { OnOk result ((contents : List (List ℕ))
+            → IsKeptPair D.Disk self.old contents → IsKeptPair D.Disk self.new contents) }
+        ensures any_moment { (contents : List (List ℕ)) → IsKeptPair D.Disk self.old contents
+            → PairLeavesOnly D.Disk self.new contents }
+        ensures synced { OnOk result (IsSynced D.Disk (counting self.new)) }
     {
         self.counts.keep_mark()
     }
 
     /// Begins anew: this content takes the place of all that is kept. It becomes the first block of
-    /// the other file, which counts from then on; the blocks of the first one are dropped. After an
-    /// error, but for `Memory`, nothing more may be asked.
+    /// the other file, which counts from then on; the blocks of the first one are dropped. `Passed`
+    /// as that of `keep`. After an error, but for `Memory`, nothing more may be asked.
     pub fn renew(&mut self, alloc: Global, content: &[u8]) -> Result<(), JournalError>
+        ensures clean { IsCleanPair D.Disk self.new → IsCleanPair D.Disk self.old }
+        ensures kept { OnOk result (IsCleanPair D.Disk self.new → (contents : List (List ℕ))
+            → IsKeptPair D.Disk self.old contents
+            → IsKeptPair D.Disk self.new (content.now ∷ [])) }
+        ensures any_moment { IsCleanPair D.Disk self.new → (contents : List (List ℕ))
+            → IsKeptPair D.Disk self.old contents
+            → PairLeaves D.Disk self.new contents (content.now ∷ []) }
+        ensures own { OnOk result (IsCleanPair D.Disk self.new → IsOwnPair D.Disk self.old) }
+        ensures passed { IsCleanPair D.Disk self.new
+            → OnlyReadsPair D.Disk self.old self.new ⊎ IsOwnPair D.Disk self.old }
+    {
+        self.look()?;
+        self.begin_anew(alloc, content)
+    }
+
+    // Has this content take the place of all that is kept.
+    fn begin_anew(&mut self, alloc: Global, content: &[u8]) -> Result<(), JournalError>
         ensures clean { IsCleanPair D.Disk self.new → IsCleanPair D.Disk self.old }
         ensures kept { OnOk result (IsCleanPair D.Disk self.new → (contents : List (List ℕ))
             → IsKeptPair D.Disk self.old contents

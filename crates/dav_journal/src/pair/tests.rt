@@ -9,12 +9,13 @@ use std::test::Fail;
 
 mod adopting;
 mod elder;
+mod passing;
 
 /// What a pair has after each step of its life: the third and the fifth begin anew.
 const STEPS: [&str; 6] = ["", "one,", "one,two,", "three,", "three,four,", "five,"];
 
-// Opens a pair, and reads what it has: each content, and a comma.
-fn read<D: Disk + Drop>(alloc: Global, pair: &mut Pair<D>) -> Result<Vec<u8>, JournalError> {
+/// Opens a pair, and reads what it has: each content, and a comma.
+pub fn read<D: Disk + Drop>(alloc: Global, pair: &mut Pair<D>) -> Result<Vec<u8>, JournalError> {
     let mut found = Vec::new(alloc);
     pair.open(alloc)?;
     for _ in 0..9 {
@@ -38,8 +39,8 @@ pub fn found<D: Disk + Drop>(alloc: Global, pair: &mut Pair<D>) -> Result<usize,
     Err(JournalError::NoRoom)
 }
 
-// Takes the step after so many.
-fn step<D: Disk + Drop>(
+/// Takes the step after so many.
+pub fn step<D: Disk + Drop>(
     alloc: Global,
     pair: &mut Pair<D>,
     steps: usize,
@@ -53,8 +54,8 @@ fn step<D: Disk + Drop>(
     }
 }
 
-// Lives on from a step to another: how many steps it has taken, as far as was answered.
-fn live<D: Disk + Drop>(alloc: Global, pair: &mut Pair<D>, from: usize, to: usize) -> usize {
+/// Lives on from a step to another: how many steps it has taken, as far as was answered.
+pub fn live<D: Disk + Drop>(alloc: Global, pair: &mut Pair<D>, from: usize, to: usize) -> usize {
     if pair.cut().is_err() {
         return from;
     }
@@ -105,8 +106,8 @@ fn a_crash_at_each_call(rt: HostRuntime) -> Result<(), Fail> {
     Ok(())
 }
 
-// The bytes of a file up to the gate after its last block, with a mark as on a disk that is mixing.
-fn file_of(alloc: Global, journal: &mut Journal<Memory>) -> Result<Vec<u8>, JournalError> {
+/// The bytes of a file up to the gate after its last block, with a mark as on a disk that is mixing.
+pub fn file_of(alloc: Global, journal: &mut Journal<Memory>) -> Result<Vec<u8>, JournalError> {
     let mut bytes = Vec::new(alloc);
     bytes.resize(journal.len().saturating_add(1), 0u8)?;
     journal.read(0, &mut bytes)?;

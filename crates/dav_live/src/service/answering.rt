@@ -100,12 +100,12 @@ impl<H: Ends + Drop, J: Keeps + Drop> Service<H, J> {
             (option_map string_bytes admitted.now.token) }
         requires kept { IsKeptFrom head.now admitted.now.head.items }
         ensures ran { OnOk result
-            (((status : ℕ) × H.refuses (admission_of self.old).rules
+            (((status : ℕ) × H.refuses (admission_of self.old).rules (admission_of self.old).limits
             (held_of self.old).state head.now
             (request_in (admission_of self.old) admitted.now body.now) status
             × IsResponse status (challenge_fields status) [] response.new
             × (held_of self.new ≡ held_of self.old))
-            ⊎ (((status : ℕ) → ¬ H.refuses (admission_of self.old).rules
+            ⊎ (((status : ℕ) → ¬ H.refuses (admission_of self.old).rules (admission_of self.old).limits
             (held_of self.old).state head.now
             (request_in (admission_of self.old) admitted.now body.now) status)
             × IsRunWhole H.answers (admission_of self.old) (held_of self.old)
@@ -117,11 +117,12 @@ impl<H: Ends + Drop, J: Keeps + Drop> Service<H, J> {
             (GoesOn H.answers J.is_clean J.kept (kept_of self.old) (kept_of self.new)) }
     {
         let request = request_in(self.admission.moment(), admitted, body);
-        match self
-            .kept
-            .handler()
-            .refusal(self.admission.rules(), head, &request)?
-        {
+        match self.kept.handler().refusal(
+            self.admission.rules(),
+            self.admission.limits(),
+            head,
+            &request,
+        )? {
             Some(status) => {
                 refuse_with(status, response)?;
                 Ok(())

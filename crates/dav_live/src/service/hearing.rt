@@ -1,5 +1,6 @@
 //! What the front reports besides requests: users, addresses, moments.
 use crate::ends::Ends;
+use crate::limits::joined;
 use crate::line::date_text;
 use crate::service::answering::request_of;
 use crate::service::{Service, stop_of};
@@ -108,7 +109,11 @@ impl<H: Ends + Drop, J: Keeps + Drop> Service<H, J> {
         ensures { OnOk result (IsListed self.old bytes.now self.new) }
     {
         match self.admission.hear_users(bytes)? {
-            None => Ok(self.told.notice("users and access: read again")?),
+            None => {
+                let limits = joined(self.alloc, self.admission.limits(), &[])?;
+                self.kept.handler().see_limits(limits);
+                Ok(self.told.notice("users and access: read again")?)
+            }
             Some(fault) => {
                 let notice = format!(in self.alloc; "{fault}; users and access are as they were")?;
                 Ok(self.told.notice(notice.as_str())?)

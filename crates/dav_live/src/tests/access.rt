@@ -141,10 +141,11 @@ fn admission(alloc: Global, lists: Lists) -> Result<Admission, Fail> {
         read_only: false,
         most_body: 1_000_000,
         most_waiting: 1_000_000,
+        limits: Vec::new(alloc),
         short_journal: 1_000_000,
         logs: false,
     };
-    Ok(Admission::new(alloc, settings, lists, 1_000_000_000))
+    Ok(Admission::new(alloc, settings, lists, 1_000_000_000)?)
 }
 
 // The head of a row, with these fields besides.
@@ -186,7 +187,7 @@ fn decided(alloc: Global, admission: &mut Admission, head: &Head<'_>) -> Result<
                 Reason::Forbidden | Reason::ReadOnly => "403",
                 Reason::TooLong => "414",
                 Reason::Outside => "404",
-                Reason::TooFar => "413",
+                Reason::TooFar | Reason::Swollen => "413",
             };
             said(alloc, status, refused.user.as_str())
         }

@@ -57,11 +57,12 @@ fn admission(alloc: Global, users: Option<&[u8]>, read_only: bool) -> Result<Adm
         read_only,
         most_body: 1_000_000,
         most_waiting: 1_000_000,
+        limits: Vec::new(alloc),
         short_journal: 1_000_000,
         logs: false,
     };
     let lists = Lists::read(alloc, users, None)?;
-    Ok(Admission::new(alloc, settings, lists, 1_000_000_000))
+    Ok(Admission::new(alloc, settings, lists, 1_000_000_000)?)
 }
 
 // The status of a request that isn't run.

@@ -80,6 +80,15 @@ pub fn see_sorted(entries: &Entries)
     let _ = &entries.tree;
 }
 
+/// The paths of what is at a path and below it, in order.
+pub fn paths_under(alloc: Global, entries: &Entries, path: &Names) -> Result<Vec<Names>, NoMemory>
+    ensures { IfOk result (λ list. list.items ≡ paths_of (under path.now entries.now.nodes)) }
+{
+    let mut list = Vec::new(alloc);
+    add_paths(alloc, entries, path, &mut list)?;
+    Ok(list)
+}
+
 /// The paths of all nodes, in order.
 pub fn paths(alloc: Global, entries: &Entries) -> Result<Vec<Names>, NoMemory>
     ensures { IfOk result (λ list. list.items ≡ paths_of entries.now.nodes) }

@@ -206,13 +206,13 @@ fn highest(rules: &Rules, who: Option<&str>, path: &DavPath) -> &'static str {
 #[test]
 fn rights_are_granted(rt: HostRuntime) -> Result<(), Fail> {
     let users = Users::read(rt.alloc(), USERS)?;
-    let rules = file::read(rt.alloc(), RULES.as_bytes(), Some(&users))?;
+    let access = file::read(rt.alloc(), RULES.as_bytes(), Some(&users))?;
     for row in MAY.lines() {
         if let Some((input, wanted)) = parts(row) {
             let (who, path) = input.split_once(' ').ok_or("a row without a path")?;
             let who = if who == "-" { None } else { Some(who) };
             let path = DavPath::new(rt.alloc(), path)?;
-            let found = highest(&rules, who, &path);
+            let found = highest(&access.rules, who, &path);
             assert!(&rt; found == wanted, "{row}\ngives: {found}");
         }
     }

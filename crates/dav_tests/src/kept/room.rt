@@ -24,6 +24,10 @@ impl Keeps for Full {
 
     ghost kept = { λ j blocks. ⊤ };
 
+    ghost is_synced = { λ j. ⊤ };
+
+    ghost is_own = { λ j. ⊤ };
+
     ghost ends_at = { λ j. 0 };
 
     ghost has_bytes = { λ j at bytes. ⊤ };

@@ -139,6 +139,7 @@ fn shown(
     if let Some(read) = Head::read(head) {
         let store = Store {
             server,
+            place: None,
             available: 7,
         };
         present(alloc, &read, body, moment, store, reply, &mut response)?;

@@ -1,4 +1,4 @@
-use Rattle.std.proofs.Common.{ap, refl, rules, string_bytes, ◌∙◌}
+use Rattle.std.proofs.Common.{ap, refl, string_bytes, ◌∙◌}
 use Rattle.dav_live.proofs.AdmissionLemmas.{user_text}
 use Rattle.dav_live.proofs.admission.refused_of.Goals as goal
 

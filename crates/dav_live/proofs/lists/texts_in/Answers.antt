@@ -1,5 +1,4 @@
 use Rattle.std.proofs.Common.{Option, Some, List, ℕ, ◌+◌, ◌-◌, arith, drop, take, length, refl, sym, subst, ◌∙◌}
-use Rattle.std.specs.Option.{option_copied}
 use Rattle.std.proofs.lemmas.List.{length-drop, take_all}
 use Rattle.dav_live.specs.Lists.{AreTexts}
 use Rattle.dav_live.proofs.ListsLemmas.{both_texts, one_text}

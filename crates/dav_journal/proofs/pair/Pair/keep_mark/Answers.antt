@@ -1,11 +1,12 @@
 use Rattle.std.proofs.lemmas.Result.{on_ok_weaker}
-use Rattle.dav_journal.proofs.PairLemmas.{kept_recovers, pair_alone}
+use Rattle.dav_journal.proofs.LookLemmas.{looks_only, pair_looks}
 use Rattle.dav_journal.proofs.pair.Pair.keep_mark.Goals as goal
 
+pub returns-in_err-look-clause-any_moment : goal.returns-in_err-look-clause-any_moment
+returns-in_err-look-clause-any_moment g c contents kept = looks_only g.D.Disk c.args.self.now c.look.new.self contents c.look.ensures.looks kept
+
 pub returns-clause-kept : goal.returns-clause-kept
-returns-clause-kept g c = on_ok_weaker c.keep_mark.result (λ marked contents kept. record { small = kept.small; kept = marked _ kept.kept; spare = kept.spare }) c.keep_mark.ensures.kept
+returns-clause-kept g c = on_ok_weaker c.sync_mark.result (λ more contents kept. more contents (pair_looks g.D.Disk c.args.self.now c.look.new.self contents c.look.ensures.looks kept)) c.sync_mark.ensures.kept
 
 pub returns-clause-any_moment : goal.returns-clause-any_moment
-returns-clause-any_moment g c contents kept left other may might =
-    let p = c.args.self.now in
-    pair_alone left other p.generation contents kept.small (c.keep_mark.ensures.any_moment _ kept.kept left may) (kept_recovers g.D.Disk p.spare _ kept.spare other might)
+returns-clause-any_moment g c contents kept = c.sync_mark.ensures.any_moment contents (pair_looks g.D.Disk c.args.self.now c.look.new.self contents c.look.ensures.looks kept)

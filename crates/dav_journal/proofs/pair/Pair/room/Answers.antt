@@ -1,4 +1,5 @@
+use Rattle.dav_journal.proofs.LookLemmas.{pair_looks}
 use Rattle.dav_journal.proofs.pair.Pair.room.Goals as goal
 
-pub returns : goal.returns
-returns g c = record { clean = λ is. (c.room.ensures.clean is.0, is.1); kept = λ contents kept. record { small = kept.small; kept = c.room.ensures.kept _ kept.kept; spare = kept.spare } }
+pub returns-clause-kept : goal.returns-clause-kept
+returns-clause-kept g c contents kept = c.make_room.ensures.kept contents (pair_looks g.D.Disk c.args.self.now c.look.new.self contents c.look.ensures.looks kept)

@@ -1,4 +1,5 @@
+use Rattle.dav_journal.proofs.LookLemmas.{pair_looks}
 use Rattle.dav_journal.proofs.pair.Pair.room_to_renew.Goals as goal
 
-pub returns : goal.returns
-returns g c = record { clean = λ is. (is.0, c.room.ensures.clean is.1); kept = λ contents kept. record { small = kept.small; kept = kept.kept; spare = c.room.ensures.kept _ kept.spare } }
+pub returns-clause-kept : goal.returns-clause-kept
+returns-clause-kept g c contents kept = c.make_room_to_renew.ensures.kept contents (pair_looks g.D.Disk c.args.self.now c.look.new.self contents c.look.ensures.looks kept)

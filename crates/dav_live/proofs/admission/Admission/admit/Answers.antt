@@ -54,4 +54,4 @@ admitted-requires-clause-within c =
     true≢false (sym (c.in_ok-begins_past.ensures.1 (subst (λ (n : ℕ). BeginsPast n c.args.head.now) (sym (ap (λ (v : AdmissionView). v.most_body) c.self.view_is)) past)) ∙ c.if-branch-2.false)
 
 pub returns-then-not-branch : goal.returns-then-not-branch
-returns-then-not-branch c = c.look_of.ensures c.args.tokens c.args.body.now
+returns-then-not-branch c = c.look_of.ensures c.args.tokens c.args.body.now c.requires.lean

@@ -1,5 +1,4 @@
-use Rattle.std.proofs.Common.{◌≡◌, ◌∙◌, List, ℕ, Option, Bool, false, true, map, sym, ap, refl, subst, rules, string_bytes, codes}
-use Rattle.std.specs.Option.{option_copied}
+use Rattle.std.proofs.Common.{◌≡◌, ◌∙◌, map, sym, ap, refl, subst, string_bytes, codes}
 use Rattle.dav_access.specs.Principals.{IsRefusal, ShowsNoUser}
 use Rattle.dav_live.specs.Admission.{AdmissionView, users_for}
 use Rattle.dav_live.specs.Hosts.{TellsFor, value_of}

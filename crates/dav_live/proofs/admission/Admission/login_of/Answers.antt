@@ -1,4 +1,4 @@
-use Rattle.std.proofs.Common.{◌≡◌, ◌≢◌, ◌∙◌, List, ℕ, Option, None, Some, rules, sym, ap, codes}
+use Rattle.std.proofs.Common.{◌≡◌, ◌≢◌, None, Some, rules, codes}
 use Rattle.dav_live.specs.Hosts.{value_of}
 use Rattle.dav_live.proofs.LoginLemmas.{login_shown}
 use Rattle.dav_live.proofs.admission.Admission.login_of.Goals as goal

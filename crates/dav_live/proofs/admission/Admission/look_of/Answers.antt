@@ -1,11 +1,11 @@
-use Rattle.std.proofs.Common.{◌≡◌, ◌∙◌, None, List, ℕ, Option, refl, sym, subst, true≢false, rules, string_bytes, option_map}
+use Rattle.std.proofs.Common.{◌≡◌, ◌∙◌, List, ℕ, Option, refl, sym, subst, true≢false, rules, string_bytes, option_map}
 use Rattle.std.specs.Option.{option_copied}
 use Rattle.dav_live.specs.Admission.{LooksIn, reason_for, without_leave}
 use Rattle.dav_live.proofs.AdmissionLemmas.{turned_away}
 use Rattle.dav_live.proofs.admission.Admission.look_of.Goals as goal
 
 pub returns-then-not-branch : goal.returns-then-not-branch
-returns-then-not-branch c tokens body =
+returns-then-not-branch c tokens body lean =
     let a = c.args.self.now in
     let who = option_map string_bytes c.args.principal in
     let r = c.refused_of.ensures in
@@ -16,12 +16,13 @@ returns-then-not-branch c tokens body =
     (subst (λ (u : Option (List ℕ)). ¬ LooksIn a u c.args.bytes.items) lent (subst (λ (b : List ℕ). ¬ LooksIn a (option_copied c.as_deref.result) b) c.deref.ensures.value lacks)))
 
 pub returns : goal.returns
-returns c tokens body =
+returns c tokens body lean =
     let a = c.args.self.now in
     let lent : option_copied c.as_deref.result ≡ option_map string_bytes c.args.principal = search rules in
     let looks : LooksIn a (option_copied c.as_deref.result) c.deref.result.now = c.in_ok-may_look.ensures.0 c.if-not-branch.false in
     record {
       let_in = c.requires.let_in;
+      lean = lean;
       few = c.requires.few;
       inside = c.requires.inside;
       open_to = c.requires.open_to;

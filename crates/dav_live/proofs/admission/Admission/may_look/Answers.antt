@@ -1,4 +1,4 @@
-use Rattle.std.proofs.Common.{◌≡◌, ◌∙◌, Some, None, ap, sym}
+use Rattle.std.proofs.Common.{◌≡◌, ◌∙◌, Some, ap, sym}
 use Rattle.std.specs.Option.{option_copied}
 use Rattle.dav_live.specs.Admission.{AdmissionView}
 use Rattle.dav_live.proofs.AdmissionLemmas.{looks_by, no_look, untold_look}

@@ -1,11 +1,10 @@
-use Rattle.std.proofs.Common.{List, ℕ, subst, sym, ap, string_bytes, ◌≡◌, ◌∙◌}
+use Rattle.std.proofs.Common.{subst, sym, ap, string_bytes, ◌≡◌, ◌∙◌}
 use Rattle.std.proofs.lemmas.Result.{IfOk-weaker}
 use Rattle.dav_journal.specs.Pair.{HasReadPair, IsCleanPair}
 use Rattle.dav_journal.specs.declared.pair.Pair.{Pair}
 use Rattle.dav_http.specs.Saved.{Loads}
 use Rattle.dav_http.specs.Steps.{new_server}
 use Rattle.dav_kept.specs.Kept.{journal_of}
-use Rattle.dav_kept.specs.declared.kept.Kept.{Kept}
 use Rattle.dav_server.specs.Server.{Server}
 use Rattle.dav_live.specs.Answers.{IsAnswer}
 use Rattle.dav_live.specs.Runs.{IsOpened}

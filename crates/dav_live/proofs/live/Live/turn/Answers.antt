@@ -1,8 +1,6 @@
 use Rattle.std.proofs.Common.{ℕ, List, Option, inl, inr}
 use Rattle.dav_journal.specs.Pair.{IsCleanPair, IsKeptPair}
 use Rattle.dav_http.specs.Saved.{IsSaveable, saved_bytes}
-use Rattle.dav_kept.specs.Records.{RequestView}
-use Rattle.dav_server.specs.Head.{Request}
 use Rattle.dav_server.specs.Server.{Server}
 use Rattle.dav_turns.proofs.Carried.{turn_carries}
 use Rattle.dav_live.specs.Answers.{IsAnswer, IsLook, IsNextEnd, IsNotRun}

@@ -1,11 +1,12 @@
-use Rattle.std.proofs.Common.{List, ap, subst, sym, ℕ, ◌∙◌}
+use Rattle.std.proofs.Common.{List, ap, subst, sym, option_map, ℕ, ◌∙◌}
+use Rattle.dav_core.specs.Path.{names}
 use Rattle.dav_engine.specs.Reply.{Reply}
 use Rattle.dav_kept.specs.Records.{RequestView}
 use Rattle.dav_server.specs.Head.{IsHead, Request}
 use Rattle.dav_http.specs.Leaves.{Leaves, no_head}
 use Rattle.dav_server.specs.Server.{Server}
 use Rattle.dav_http.specs.Presented.{IsShown}
-use Rattle.dav_http.specs.Room.{room_of}
+use Rattle.dav_http.specs.Room.{room_in, room_of}
 use Rattle.dav_live.specs.Answers.{headless, presented}
 use Rattle.dav_live.proofs.machine.Machine.answer_with.Goals as goal
 
@@ -16,11 +17,13 @@ returns-in_default c =
 
 pub returns : goal.returns
 returns c =
-    let head = subst (λ (q : RequestView). IsHead q.head c.in-Some.head) c.request.view_is c.in-Some.ensures in (
-      presented c.in-Some.head head c.get.result
-          (subst (λ (s : Server). IsShown c.in-Some.head c.args.request.now.body c.args.request.now.moment (room_of s c.get.result) c.args.reply c.present.new.response) c.self.view_is
-          (subst (λ (q : RequestView). IsShown c.in-Some.head q.body q.moment (room_of c.self.inside.handler.server c.get.result) c.args.reply c.present.new.response) c.request.view_is
-          (subst (λ (b : List ℕ). IsShown c.in-Some.head b c.request.inside.moment (room_of c.self.inside.handler.server c.get.result) c.args.reply c.present.new.response) c.as_slice-body.ensures
+    let head = subst (λ (q : RequestView). IsHead q.head c.in-Some.head) c.request.view_is c.in-Some.ensures in
+    let store = c.in_ok-store.store in
+    let place = option_map (λ p. names p.now) store.place in (
+      presented c.in-Some.head head place store.available
+          (subst (λ (s : Server). IsShown c.in-Some.head c.args.request.now.body c.args.request.now.moment (room_of s place store.available) c.args.reply c.present.new.response) c.in_ok-store.ensures
+          (subst (λ (q : RequestView). IsShown c.in-Some.head q.body q.moment (room_in store) c.args.reply c.present.new.response) c.request.view_is
+          (subst (λ (b : List ℕ). IsShown c.in-Some.head b c.request.inside.moment (room_in store) c.args.reply c.present.new.response) c.as_slice-body.ensures
           c.in_ok-present.ensures))),
       λ left.
           subst (λ (status : ℕ). Leaves c.args.request.now.head status) (c.as_u16.ensures.value ∙ ap (λ (r : Reply). r.status) c.reply.view_is)

@@ -1,6 +1,6 @@
 use Rattle.std.proofs.Common.{◌≡◌, rules}
-use Rattle.dav_kept.specs.Kept.{IsAnswerOf, held_by}
-use Rattle.dav_kept.proofs.KeptLemmas.{of_none, of_some}
+use Rattle.dav_kept.specs.Kept.{held_by}
+use Rattle.dav_kept.proofs.KeptLemmas.{of_some}
 use Rattle.dav_live.specs.Serving.{answered, held_of, kept_of}
 use Rattle.dav_live.proofs.RunLemmas.{answered_goes_on, goes_on_held}
 use Rattle.dav_live.proofs.service.Service.change.Goals as goal

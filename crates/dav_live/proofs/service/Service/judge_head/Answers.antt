@@ -3,7 +3,7 @@ use Rattle.dav_access.specs.Logins.{LoginsView, after_wrong, wait_of}
 use Rattle.dav_access.specs.declared.basic.Credentials.{Credentials}
 use Rattle.dav_wire.specs.declared.answer.Rejection.{Rejection}
 use Rattle.dav_wire.specs.declared.answer.Rejection.TheVariants.{Unauthorized, Forbidden, TooManyRequests, Unavailable}
-use Rattle.dav_live.specs.Admission.{AdmissionView, IsClosedTo}
+use Rattle.dav_live.specs.Admission.{IsClosedTo}
 use Rattle.dav_live.specs.Serving.{admission_of, logins_of}
 use Rattle.dav_live.specs.Verdicts.{IsVerdict, closed}
 use Rattle.dav_live.specs.Waiting.{ShowsLogin, seconds_of}

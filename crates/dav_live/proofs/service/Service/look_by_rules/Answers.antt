@@ -1,8 +1,6 @@
-use Rattle.std.proofs.Common.{◌≡◌, Option, Some, None, ap, sym, subst, ◌∙◌}
+use Rattle.std.proofs.Common.{ap, sym, subst, ◌∙◌}
 use Rattle.std.specs.Option.{option_copied}
-use Rattle.dav_access.specs.Rules.{Rules}
 use Rattle.dav_kept.specs.Records.{RequestView}
-use Rattle.dav_live.specs.Admission.{request_in}
 use Rattle.dav_live.specs.Serving.{admission_of, held_of, kept_of}
 use Rattle.dav_live.proofs.RunLemmas.{goes_on_left}
 use Rattle.dav_live.proofs.service.Service.look_by_rules.Goals as goal

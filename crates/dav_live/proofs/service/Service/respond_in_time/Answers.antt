@@ -1,14 +1,13 @@
-use Rattle.std.proofs.Common.{◌≡◌, ◌∙◌, ◌≢◌, ℕ, List, Option, Some, MatchOption, rules, ap, sym, subst, string_bytes}
+use Rattle.std.proofs.Common.{◌≡◌, ◌∙◌, ◌≢◌, ℕ, List, Option, MatchOption, rules, ap, sym, subst, string_bytes}
 use Rattle.dav_access.specs.Logins.{LoginsView, after_right, after_wrong, wait_of}
 use Rattle.dav_access.specs.declared.basic.Credentials.{Credentials}
 use Rattle.dav_kept.specs.Kept.{held_by}
 use Rattle.dav_kept.specs.declared.kept.Kept.{Kept}
-use Rattle.dav_live.specs.Admission.{AdmissionView}
 use Rattle.dav_live.specs.Serving.{IsResponseTo, admission_of, held_of, kept_of, logins_of}
-use Rattle.dav_live.specs.Waiting.{IsAfterLogin, ShowsLogin, seconds_of}
+use Rattle.dav_live.specs.Waiting.{ShowsLogin, seconds_of}
 use Rattle.dav_live.proofs.LoginLemmas.{on_three, replied_bare, replied_heard, replied_wait, seen_login}
 use Rattle.dav_live.proofs.RunLemmas.{goes_on_same}
-use Rattle.dav_live.proofs.ServingLemmas.{at_none, holds_on, on_ok}
+use Rattle.dav_live.proofs.ServingLemmas.{at_none, holds_on}
 use Rattle.dav_live.proofs.service.Service.respond_in_time.Goals as goal
 
 pub returns-in_default-clause-replies : goal.returns-in_default-clause-replies

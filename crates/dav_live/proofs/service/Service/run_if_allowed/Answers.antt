@@ -13,8 +13,8 @@ returns-in_ok-refuse_with-in-Some-clause-goes_on g c = goes_on_same g.H.Handles.
 
 pub returns-in-None-clause-ran : goal.returns-in-None-clause-ran
 returns-in-None-clause-ran g c =
-    not_refused g.H.Handles.answers g.H.Ends.refuses _ _ (admission_of c.args.self.now) c.handler.result.now (held_of c.args.self.now) (held_of c.run_whole.new.self) c.args.head.now c.request_in-request.result
-    (request_in (admission_of c.args.self.now) c.args.admitted.now c.args.body.now) c.run_whole.new.response c.in_ok-status.field-0 c.run_whole.result c.rules.ensures c.handler.ensures
+    not_refused g.H.Handles.answers g.H.Ends.refuses _ _ _ (admission_of c.args.self.now) c.handler.result.now (held_of c.args.self.now) (held_of c.run_whole.new.self) c.args.head.now c.request_in-request.result
+    (request_in (admission_of c.args.self.now) c.args.admitted.now c.args.body.now) c.run_whole.new.response c.in_ok-status.field-0 c.run_whole.result c.rules.ensures c.limits.ensures c.handler.ensures
     (c.request_in-request.ensures (admission_of c.args.self.now) (sym c.moment.ensures.is)) c.in-None.is c.in_ok-status.ensures c.run_whole.ensures.run
 
 pub run_whole-requires-clause-number : goal.run_whole-requires-clause-number
@@ -25,8 +25,8 @@ pub returns-in_ok-refuse_with-in-Some-clause-ran : goal.returns-in_ok-refuse_wit
 returns-in_ok-refuse_with-in-Some-clause-ran g c =
     inl (
       c.in-Some.status,
-      refused_by g.H.Ends.refuses _ (admission_of c.args.self.now).rules c.handler.result.now c.args.self.now.kept.handler c.args.head.now c.request_in-request.result
-          (request_in (admission_of c.args.self.now) c.args.admitted.now c.args.body.now) c.in_ok-status.field-0 c.in-Some.status c.rules.ensures c.handler.ensures
+      refused_by g.H.Ends.refuses _ (admission_of c.args.self.now).rules _ (admission_of c.args.self.now).limits c.handler.result.now c.args.self.now.kept.handler c.args.head.now c.request_in-request.result
+          (request_in (admission_of c.args.self.now) c.args.admitted.now c.args.body.now) c.in_ok-status.field-0 c.in-Some.status c.rules.ensures c.limits.ensures c.handler.ensures
           (c.request_in-request.ensures (admission_of c.args.self.now) (sym c.moment.ensures.is)) c.in-Some.is c.in_ok-status.ensures,
       c.in_ok-refuse_with-in-Some.ensures,
       refl,

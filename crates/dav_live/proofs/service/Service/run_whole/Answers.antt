@@ -1,6 +1,6 @@
 use Rattle.std.proofs.Common.{subst}
 use Rattle.dav_live.specs.Admission.{AdmissionView}
-use Rattle.dav_live.specs.Serving.{IsTimed, admission_of, held_of, kept_of}
+use Rattle.dav_live.specs.Serving.{IsTimed, held_of, kept_of}
 use Rattle.dav_live.proofs.RunLemmas.{goes_on_then}
 use Rattle.dav_live.proofs.ServingLemmas.{on_ok}
 use Rattle.dav_live.proofs.service.Service.run_whole.Goals as goal

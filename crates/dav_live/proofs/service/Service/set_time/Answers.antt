@@ -1,9 +1,8 @@
-use Rattle.std.proofs.Common.{◌≡◌, ◌∙◌, List, None, Option, option_map, refl, rules, string_bytes, subst, sym, true≢false, ℕ}
+use Rattle.std.proofs.Common.{◌≡◌, ◌∙◌, List, None, Option, refl, rules, subst, sym, true≢false, ℕ}
 use Rattle.std.specs.Option.{option_copied}
 use Rattle.dav_kept.specs.Records.{RequestView}
-use Rattle.http_server.specs.declared.response.Response.{Response}
 use Rattle.dav_live.specs.Admission.{HasLeaveIn}
-use Rattle.dav_live.specs.Serving.{IsAccepted, IsRun, admission_of, belonging_to, held_of, kept_of}
+use Rattle.dav_live.specs.Serving.{IsRun, admission_of, belonging_to, held_of, kept_of}
 use Rattle.dav_live.proofs.RunLemmas.{goes_on_same}
 use Rattle.dav_live.proofs.ServingLemmas.{TellsRequest, left_time, on_ok, told_time, untold_time}
 use Rattle.dav_live.proofs.service.Service.set_time.Goals as goal

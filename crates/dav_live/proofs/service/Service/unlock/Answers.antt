@@ -1,5 +1,4 @@
-use Rattle.std.proofs.Common.{◌≡◌, ◌∙◌, List, ℕ, None, [], ap, subst, rules}
-use Rattle.dav_kept.specs.Kept.{held_by}
+use Rattle.std.proofs.Common.{◌≡◌, ◌∙◌, List, ℕ, None, ap, subst, rules}
 use Rattle.dav_kept.specs.Records.{RequestView}
 use Rattle.dav_live.specs.Serving.{IsRun, held_of, own_request}
 use Rattle.dav_live.proofs.service.Service.unlock.Goals as goal

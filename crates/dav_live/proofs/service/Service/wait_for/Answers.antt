@@ -1,7 +1,6 @@
-use Rattle.std.proofs.Common.{◌≡◌, ◌∙◌, ℕ, List, ap, string_bytes}
+use Rattle.std.proofs.Common.{◌∙◌, ℕ, List, ap, string_bytes}
 use Rattle.dav_access.specs.Logins.{wait_of}
 use Rattle.dav_live.specs.Serving.{logins_of}
-use Rattle.dav_live.specs.Waiting.{seconds_of}
 use Rattle.dav_live.proofs.service.Service.wait_for.Goals as goal
 
 pub returns : goal.returns

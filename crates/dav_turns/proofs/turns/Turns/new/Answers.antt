@@ -1,4 +1,3 @@
-use Rattle.dav_turns.specs.Connections.{TurnsView}
 use Rattle.dav_turns.proofs.turns.Turns.new.Goals as goal
 
 pub returns : goal.returns

@@ -1,5 +1,4 @@
 use Rattle.std.proofs.Common.{refl}
-use Rattle.dav_server.specs.Head.{Request}
 use Rattle.dav_live.proofs.VerdictLemmas.{judged_head, left_head}
 use Rattle.dav_live.proofs.service.answering.ServiceAnswerer.judge.Goals as goal
 

@@ -1,4 +1,4 @@
-use Rattle.std.proofs.Common.{ap, inl, refl, rules, ◌∙◌}
+use Rattle.std.proofs.Common.{ap, inl, rules, ◌∙◌}
 use Rattle.dav_live.specs.Admission.{AdmissionView, after_clocks}
 use Rattle.dav_live.specs.Serving.{kept_of}
 use Rattle.dav_live.proofs.RunLemmas.{goes_on_same}

@@ -1,0 +1,9 @@
+mod SumLemmas
+mod PathLemmas
+mod PartLemmas
+mod ReachLemmas
+mod ChangeLemmas
+mod StepLemmas
+mod WatchLemmas
+mod RenewLemmas
+mod ReadingLemmas

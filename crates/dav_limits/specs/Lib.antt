@@ -1,0 +1,4 @@
+pub mod Parts
+pub mod Watches
+pub mod Added
+pub mod Limits

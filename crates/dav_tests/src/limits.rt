@@ -1,0 +1,217 @@
+//! How much is at paths and below them, through the requests of a session, and which requests would pass limits, as rows. In a row `^`
+//! is CRLF.
+use super::requests::{parts, unescaped};
+use bytes::Bytes;
+use dav_access::{Limit, Measure};
+use dav_core::davpath::DavPath;
+use dav_core::errors::NoMemory;
+use dav_engine::Caller;
+use dav_http::{HandleError, Handler};
+use dav_limits::{Watches, is_past};
+use std::alloc::{AllocError, Global};
+use std::test::Fail;
+
+// A session, and how many files and folders, and how many bytes, are at `/`, at `/a` and at `/a/d`, and below them, after each request
+// (RFC 4331, section 4).
+const SESSION: &str = "\
+MKCOL /a HTTP/1.1^^ -> 2 0, 1 0, 0 0
+PUT /a/f HTTP/1.1^^hello -> 3 5, 2 5, 0 0
+PUT /a/f HTTP/1.1^^hello, you -> 3 10, 2 10, 0 0
+PUT /a/f HTTP/1.1^^hi -> 3 2, 2 2, 0 0
+PATCH /a/f HTTP/1.1^Content-Type: application/x-sabredav-partialupdate^X-Update-Range: append^Content-Length: 3^^abc -> 3 5, 2 5, 0 0
+PATCH /a/f HTTP/1.1^Content-Type: application/x-sabredav-partialupdate^X-Update-Range: bytes=7-9^Content-Length: 3^^abc -> 3 10, 2 10, 0 0
+PUT /missing/f HTTP/1.1^^x -> 3 10, 2 10, 0 0
+PUT /b HTTP/1.1^^x -> 4 11, 2 10, 0 0
+MKCOL /a/d HTTP/1.1^^ -> 5 11, 3 10, 1 0
+COPY /a/f HTTP/1.1^Destination: /a/d/g^^ -> 6 21, 4 20, 2 10
+COPY /a/d HTTP/1.1^Destination: /a/d/e^^ -> 8 31, 6 30, 4 20
+DELETE /a/d/e HTTP/1.1^^ -> 6 21, 4 20, 2 10
+COPY /a/d HTTP/1.1^Destination: /e^^ -> 8 31, 4 20, 2 10
+COPY /a/d HTTP/1.1^Destination: /e^Depth: 0^^ -> 8 31, 4 20, 2 10
+DELETE /e/g HTTP/1.1^^ -> 7 21, 4 20, 2 10
+MOVE /e HTTP/1.1^Destination: /a/d/e^^ -> 7 21, 5 20, 3 10
+MOVE /a/d/g HTTP/1.1^Destination: /b^^ -> 6 20, 4 10, 2 0
+MOVE /a/f HTTP/1.1^Destination: /a/d/f^^ -> 6 20, 4 10, 3 10
+MOVE /a/d HTTP/1.1^Destination: /d^^ -> 6 20, 1 0, 0 0
+MOVE /d HTTP/1.1^Destination: /a^^ -> 5 20, 3 10, 0 0
+PROPPATCH /a HTTP/1.1^^<propertyupdate xmlns='DAV:'><set><prop><x xmlns='u:'>text</x></prop></set></propertyupdate> -> 5 20, 3 10, 0 0
+LOCK /a/n HTTP/1.1^^<lockinfo xmlns='DAV:'><lockscope><exclusive/></lockscope><locktype><write/></locktype></lockinfo> -> 6 20, 4 10, 0 0
+GET /a/f HTTP/1.1^^ -> 6 20, 4 10, 0 0
+not a head -> 6 20, 4 10, 0 0
+DELETE /a/e HTTP/1.1^^ -> 5 20, 3 10, 0 0
+DELETE /a HTTP/1.1^^ -> 5 20, 3 10, 0 0
+DELETE /b HTTP/1.1^^ -> 4 10, 3 10, 0 0
+";
+
+// Limits as `measure path most`, and which requests would pass them, where `/a`, a folder, has the file `/a/f` of five bytes, and `/b`
+// the two `/b/f` and `/b/g` of three: with the folder `/` there are six (RFC 4918, section 11.5).
+const PAST: &str = "\
+# at the limit, and one more (RFC 4331, section 6)
+files /a 3; PUT /a/g HTTP/1.1^^x -> no
+files /a 2; PUT /a/g HTTP/1.1^^x -> yes
+files /a 2; PUT /a/f HTTP/1.1^^x -> no
+files /a 2; PUT /b/h HTTP/1.1^^x -> no
+files / 7; PUT /c HTTP/1.1^^x -> no
+files / 6; PUT /c HTTP/1.1^^x -> yes
+files / 7; MKCOL /c HTTP/1.1^^ -> no
+files / 6; MKCOL /c HTTP/1.1^^ -> yes
+space /a 9; PUT /a/g HTTP/1.1^^four -> no
+space /a 8; PUT /a/g HTTP/1.1^^four -> yes
+space /a 8; PUT /a/g/../g HTTP/1.1^^four -> yes
+space /a 8; PUT /%61/g HTTP/1.1^^four -> yes
+# over a file that is there
+space /a 5; PUT /a/f HTTP/1.1^^12345 -> no
+space /a 5; PUT /a/f HTTP/1.1^^123456 -> yes
+space /a 2; PUT /a/f HTTP/1.1^^12345 -> no
+space /a 2; PUT /a/f HTTP/1.1^^123456 -> yes
+space /a 2; PUT /a/g HTTP/1.1^^ -> no
+# parts of a file
+space /a 8; PATCH /a/f HTTP/1.1^X-Update-Range: append^^abc -> no
+space /a 7; PATCH /a/f HTTP/1.1^X-Update-Range: append^^abc -> yes
+space /a 5; PATCH /a/f HTTP/1.1^X-Update-Range: bytes=2-4^^abc -> no
+space /a 10; PATCH /a/f HTTP/1.1^X-Update-Range: bytes=7-^^abc -> no
+space /a 9; PATCH /a/f HTTP/1.1^X-Update-Range: bytes=7-^^abc -> yes
+space /a 7; PATCH /a/f HTTP/1.1^X-Update-Range: bytes=-1^^abc -> yes
+space /a 9; PUT /a/f HTTP/1.1^Content-Range: bytes 7-9/*^^abc -> yes
+space /a 9; PUT /a/f HTTP/1.1^Content-Range: bytes 18446744073709551615-18446744073709551615/*^^a -> yes
+# folders, locks
+files /a 2; MKCOL /a/d HTTP/1.1^^ -> yes
+files /a 2; LOCK /a/n HTTP/1.1^^ -> yes
+files /a 2; LOCK /a/f HTTP/1.1^^ -> no
+space /a 5; MKCOL /a/d HTTP/1.1^^ -> no
+# copies: all of the source, in what holds the destination
+space /a 11; COPY /b HTTP/1.1^Destination: /a/b^^ -> no
+space /a 10; COPY /b HTTP/1.1^Destination: /a/b^^ -> yes
+files /a 5; COPY /b HTTP/1.1^Destination: /a/b^^ -> no
+files /a 4; COPY /b HTTP/1.1^Destination: /a/b^^ -> yes
+space /b 6; COPY /b HTTP/1.1^Destination: /a/b^^ -> no
+space /a 5; COPY /a HTTP/1.1^Destination: /c^^ -> no
+space /a 5; COPY /a/f HTTP/1.1^^ -> no
+# moves: not in what holds the source too
+space /a 10; MOVE /b HTTP/1.1^Destination: /a/b^^ -> yes
+space /a 5; MOVE /a/f HTTP/1.1^Destination: /a/g^^ -> no
+space / 11; MOVE /b HTTP/1.1^Destination: /a/b^^ -> no
+files / 5; MOVE /b HTTP/1.1^Destination: /a/b^^ -> no
+# what adds nothing
+space / 0; GET /a/f HTTP/1.1^^ -> no
+space / 0; DELETE /a/f HTTP/1.1^^ -> no
+files / 0; PROPPATCH /a HTTP/1.1^^<a/> -> no
+files / 0; OPTIONS * HTTP/1.1^^ -> no
+files / 0; BREW /a HTTP/1.1^^ -> no
+files / 0; not a head -> no
+# several
+files /a 9, space /a 5; PUT /a/g HTTP/1.1^^x -> yes
+files /a 2, space /a 9; PUT /a/g HTTP/1.1^^x -> yes
+files /a 9, space /a 9; PUT /a/g HTTP/1.1^^x -> no
+space /b 0, space / 99; PUT /a/g HTTP/1.1^^x -> no
+";
+
+// Has a server run a request, given as a head and a body.
+fn run(alloc: Global, server: &mut Handler, bytes: &[u8]) -> Result<(), HandleError> {
+    let (head, body) = parts(bytes);
+    let caller = Caller {
+        principal: None,
+        moment: 1_000_000_000,
+        token: Some("urn:uuid:1"),
+    };
+    let body = Bytes::copy_from_slice(alloc, body)?;
+    server.handle(alloc, head, body, &caller)?;
+    Ok(())
+}
+
+// A limit.
+fn limit(alloc: Global, measure: &str, path: &str, most: &str) -> Result<Limit, Fail> {
+    Ok(Limit {
+        path: DavPath::new(alloc, path)?,
+        measure: if measure == "files" {
+            Measure::Files
+        } else {
+            Measure::Space
+        },
+        most: most.parse::<u64>()?,
+    })
+}
+
+// Limits, as `measure path most`, with a comma between two.
+fn limits(alloc: Global, text: &str) -> Result<Vec<Limit>, Fail> {
+    let mut limits = Vec::new(alloc);
+    for one in text.split(", ") {
+        let (measure, rest) = one.split_once(' ').ok_or("no measure")?;
+        let (path, most) = rest.split_once(' ').ok_or("no path")?;
+        limits.push(limit(alloc, measure, path, most)?)?;
+    }
+    Ok(limits)
+}
+
+// How much is at `/`, `/a` and `/a/d`, and below them.
+fn amounts(alloc: Global, watches: &Watches, server: &Handler) -> Result<String, NoMemory> {
+    let mut text = String::new(alloc);
+    for place in ["/", "/a", "/a/d"] {
+        let Ok(path) = DavPath::new(alloc, place) else {
+            return Err(NoMemory);
+        };
+        let amount = watches.amount_at(alloc, server, &path)?;
+        let comma = if text.is_empty() { "" } else { ", " };
+        let (files, bytes) = (amount.files, amount.bytes);
+        text.push_str(format!(in alloc; "{comma}{files} {bytes}")?.as_str())?;
+    }
+    Ok(text)
+}
+
+// A server with `/a/f`, `/b/f` and `/b/g`.
+fn filled(alloc: Global) -> Result<Handler, Fail> {
+    let mut server = Handler::new(alloc, "")?;
+    for bytes in [
+        "MKCOL /a HTTP/1.1\r\n\r\n",
+        "PUT /a/f HTTP/1.1\r\n\r\n12345",
+        "MKCOL /b HTTP/1.1\r\n\r\n",
+        "PUT /b/f HTTP/1.1\r\n\r\n123",
+        "PUT /b/g HTTP/1.1\r\n\r\n123",
+    ] {
+        run(alloc, &mut server, bytes.as_bytes())?;
+    }
+    Ok(server)
+}
+
+#[test]
+fn amounts_are_known_through_a_session(rt: HostRuntime) -> Result<(), Fail> {
+    let alloc = rt.alloc();
+    let mut server = Handler::new(alloc, "")?;
+    let listed = limits(alloc, "files / 9, files /a 9, space /a/d 9")?;
+    let mut watches = Watches::of(alloc, &server, &listed)?;
+    for row in SESSION.lines() {
+        let (input, wanted) = row.split_once(" -> ").ok_or("a row without an end")?;
+        let bytes = unescaped(alloc, input)?;
+        let (head, _) = parts(&bytes);
+        let noted = watches.noted(alloc, &server, head)?;
+        run(alloc, &mut server, &bytes)?;
+        watches = noted.renewed(alloc, &server)?;
+        let known = amounts(alloc, &watches, &server)?;
+        assert!(rt; known.as_str() == wanted, "{row}: {known}");
+        let counted = amounts(alloc, &Watches::new(alloc), &server)?;
+        assert!(rt; counted.as_str() == wanted, "{row}: counted {counted}");
+    }
+    Ok(())
+}
+
+#[test]
+fn requests_past_limits_are_named(rt: HostRuntime) -> Result<(), Fail> {
+    let alloc = rt.alloc();
+    let server = filled(alloc)?;
+    for row in PAST.lines() {
+        if let Some((input, wanted)) = row.split_once(" -> ") {
+            let (listed, request) = input.split_once("; ").ok_or("a row without limits")?;
+            let listed = limits(alloc, listed)?;
+            let bytes = unescaped(alloc, request)?;
+            let (head, body) = parts(&bytes);
+            let watches = Watches::of(alloc, &server, &listed)?;
+            let len = body.len() as u64;
+            let is = is_past(alloc, &listed, &watches, &server, head, len)?;
+            assert!(rt; is == (wanted == "yes"), "{row}: {is}");
+            let none = Watches::new(alloc);
+            let again = is_past(alloc, &listed, &none, &server, head, len)?;
+            assert!(rt; again == is, "{row}: {again} without watches");
+        }
+    }
+    Ok(())
+}
