@@ -1,4 +1,3 @@
-pub mod Amounts
 pub mod Owners
 pub mod Sent
 pub mod SentLaws

@@ -2,8 +2,7 @@
 use Rattle.std.specs.Prelude.{ℕ, Option, None, Some, option_map}
 use Rattle.dav_core.specs.Path.{Path, names}
 use Rattle.dav_server.specs.Server.{Server}
-use Rattle.dav_store.specs.Used.{used_bytes}
-use Rattle.dav_http.specs.Amounts.{amount_at}
+use Rattle.dav_store.specs.Used.{amount_at, used_bytes}
 use Rattle.dav_presented.specs.declared.quota.Room.{Room}
 use Rattle.dav_http.specs.declared.presented.Store.{Store}
 

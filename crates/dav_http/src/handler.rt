@@ -11,7 +11,6 @@ mod holders;
 mod refused;
 mod saved;
 
-use crate::amount::Amount;
 use crate::head::{Head, takes_tree};
 use crate::owner::with_prefixed_owners;
 use crate::sendable::is_sendable_if_any;
@@ -26,7 +25,7 @@ use dav_engine::{Body, Caller, Reply};
 use dav_presented::times::{find_as, patch_as};
 use dav_server::davhandler::{DavHandler, HandlerError};
 use dav_server::exchange::{Exchange, GrantToken, LAST_MOMENT, TokenError};
-use dav_store::memfs::MemFs;
+use dav_store::memfs::{Amount, MemFs};
 use dav_store::memls::MemLs;
 use dav_xml::XmlError;
 pub use refused::may_be_refused;
@@ -181,8 +180,7 @@ impl Handler {
     ghost use Rattle.dav_server.specs.Server.{Answers};
     ghost use Rattle.dav_server.specs.Setup.{IsPrefix};
     ghost use Rattle.dav_store.specs.LockEnds.{first_ended};
-    ghost use Rattle.dav_store.specs.Used.{used_bytes};
-    ghost use Rattle.dav_http.specs.Amounts.{amount_alone, amount_at};
+    ghost use Rattle.dav_store.specs.Used.{amount_alone, amount_at, used_bytes};
     ghost use Rattle.dav_http.specs.Leaves.{Leaves};
     ghost use Rattle.dav_http.specs.Sent.{HoldsSendable, IsSendableTextIfAny};
     ghost use Rattle.dav_http.specs.SentLaws.{IsSendableRequest};
@@ -247,11 +245,7 @@ impl Handler {
         ensures { IfOk result (λ amount. amount
             ≡ amount_at (names path.now) self.now.server.state.store.world.nodes) }
     {
-        let amount = self.handler.fs().amount_at(alloc, path)?;
-        Ok(Amount {
-            files: amount.files,
-            bytes: amount.bytes,
-        })
+        self.handler.fs().amount_at(alloc, path)
     }
 
     /// How much is at a path alone: nothing where nothing is, and of a folder it alone. Nothing changes.
@@ -259,11 +253,7 @@ impl Handler {
         ensures { result
             ≡ amount_alone (node_at self.now.server.state.store.world (names path.now)) }
     {
-        let amount = self.handler.fs().amount_alone(path);
-        Amount {
-            files: amount.files,
-            bytes: amount.bytes,
-        }
+        self.handler.fs().amount_alone(path)
     }
 
     /// What is always true of a server: its store holds a world. It does nothing.

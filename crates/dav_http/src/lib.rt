@@ -5,7 +5,6 @@
 //! part that is run and kept is again a head.
 #![tactic(auto)]
 
-mod amount;
 mod ending;
 mod handler;
 mod head;
@@ -17,7 +16,6 @@ mod response;
 mod sendable;
 mod uploaded;
 
-pub use amount::Amount;
 pub use ending::unlock_head;
 pub use handler::{HandleError, Handler, may_be_refused, method_of};
 pub use head::{Head, is_lock, is_safe, leaves, takes_tree};

@@ -5,10 +5,9 @@ use Rattle.std.specs.List.{filter, sum_by}
 use Rattle.dav_core.specs.Numbers.{max_u64}
 use Rattle.dav_core.specs.Path.{Path, is_at_or_under, path_cmp}
 use Rattle.dav_core.specs.World.{Nodes}
-use Rattle.dav_http.specs.declared.amount.Amount.{Amount}
+use Rattle.dav_store.specs.declared.memfs.used.Amount.{Amount}
 use Rattle.dav_store.specs.Subtrees.{under}
-use Rattle.dav_store.specs.Used.{len_of}
-use Rattle.dav_http.specs.Amounts.{amount_at}
+use Rattle.dav_store.specs.Used.{amount_at, len_of}
 use Rattle.dav_limits.specs.Parts.{under_where}
 use Rattle.dav_limits.proofs.SumLemmas.{len_parts, same_len, same_sum, size_of, sum_parts}
 

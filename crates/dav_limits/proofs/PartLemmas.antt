@@ -7,10 +7,9 @@ use Rattle.dav_core.specs.Numbers.{max_u64}
 use Rattle.dav_core.specs.Path.{Path, is_at_or_under, is_same_path, path_cmp}
 use Rattle.dav_core.specs.World.{Node, Nodes}
 use Rattle.dav_core.proofs.NodesLemmas.{path_exact, path_total, same_path}
-use Rattle.dav_http.specs.declared.amount.Amount.{Amount}
+use Rattle.dav_store.specs.declared.memfs.used.Amount.{Amount}
 use Rattle.dav_store.specs.Subtrees.{under}
-use Rattle.dav_store.specs.Used.{len_of}
-use Rattle.dav_http.specs.Amounts.{amount_alone, amount_of}
+use Rattle.dav_store.specs.Used.{amount_alone, amount_of, len_of}
 use Rattle.dav_engine.proofs.FaultLemmas.{below_trans, one_line}
 use Rattle.dav_limits.specs.Added.{nothing}
 use Rattle.dav_limits.specs.Parts.{under_where}

@@ -7,7 +7,7 @@ use Rattle.dav_core.specs.World.{Nodes}
 use Rattle.dav_confined.specs.Asked.{AskedView}
 use Rattle.dav_confined.specs.ConfinedSteps.{changes_below, changes_target}
 use Rattle.dav_confined.specs.Reached.{changes_destination, is_at_or_under_any, reaches}
-use Rattle.dav_http.specs.Amounts.{amount_of}
+use Rattle.dav_store.specs.Used.{amount_of}
 use Rattle.dav_limits.specs.Added.{nothing}
 use Rattle.dav_limits.specs.Parts.{part_of, under_where}
 use Rattle.dav_limits.proofs.PartLemmas.{amount_none, amount_same}

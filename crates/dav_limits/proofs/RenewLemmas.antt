@@ -6,11 +6,10 @@ use Rattle.dav_core.specs.Path.{names}
 use Rattle.dav_core.specs.World.{IsWorld}
 use Rattle.dav_engine.specs.Caller.{Caller}
 use Rattle.dav_engine.specs.Reply.{Reply}
-use Rattle.dav_http.specs.declared.amount.Amount.{Amount}
-use Rattle.dav_http.specs.Amounts.{amount_at, amount_of}
+use Rattle.dav_store.specs.declared.memfs.used.Amount.{Amount}
+use Rattle.dav_store.specs.Used.{amount_at, amount_of, len_of}
 use Rattle.dav_http.specs.Steps.{IsStepFor}
 use Rattle.dav_server.specs.Server.{Server}
-use Rattle.dav_store.specs.Used.{len_of}
 use Rattle.dav_confined.specs.Asked.{AskedView}
 use Rattle.std.specs.Prelude.{⊤, Option, Some}
 use Rattle.dav_limits.specs.declared.watches.Part.{Part}

@@ -6,8 +6,8 @@ use Rattle.dav_core.specs.Locks.{Lock}
 use Rattle.dav_core.specs.Path.{Path, is_at_or_under, names}
 use Rattle.dav_core.specs.World.{IsWorld}
 use Rattle.dav_server.specs.Server.{Server}
-use Rattle.dav_http.specs.declared.amount.Amount.{Amount}
-use Rattle.dav_http.specs.Amounts.{amount_at, amount_of}
+use Rattle.dav_store.specs.declared.memfs.used.Amount.{Amount}
+use Rattle.dav_store.specs.Used.{amount_at, amount_of}
 use Rattle.dav_confined.specs.Asked.{AskedView}
 use Rattle.dav_limits.specs.declared.watches.Part.{Part}
 use Rattle.dav_limits.specs.declared.watches.Watch.{Watch}

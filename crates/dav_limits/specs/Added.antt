@@ -7,8 +7,8 @@ use Rattle.dav_core.specs.declared.method.DavMethod.TheVariants.{Put, Patch, MkC
 use Rattle.dav_core.specs.Path.{PathText, names, path_cmp}
 use Rattle.dav_core.specs.World.{Nodes}
 use Rattle.std.specs.FinMap.{find}
-use Rattle.dav_http.specs.declared.amount.Amount.{Amount}
-use Rattle.dav_http.specs.Amounts.{amount_alone, amount_at}
+use Rattle.dav_store.specs.declared.memfs.used.Amount.{Amount}
+use Rattle.dav_store.specs.Used.{amount_alone, amount_at}
 
 -- nothing
 abbrev pub nothing : Amount

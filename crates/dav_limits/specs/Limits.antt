@@ -8,8 +8,8 @@ use Rattle.dav_core.specs.World.{Nodes}
 use Rattle.dav_server.specs.Headers.{headers_of}
 use Rattle.dav_server.specs.Machine.{Exchange}
 use Rattle.dav_server.specs.Server.{Server}
-use Rattle.dav_http.specs.declared.amount.Amount.{Amount}
-use Rattle.dav_http.specs.Amounts.{amount_at}
+use Rattle.dav_store.specs.declared.memfs.used.Amount.{Amount}
+use Rattle.dav_store.specs.Used.{amount_at}
 use Rattle.dav_access.specs.declared.limit.Limit.{Limit}
 use Rattle.dav_access.specs.declared.limit.Measure.{Measure}
 use Rattle.dav_access.specs.declared.limit.Measure.TheVariants.{Files, Space}

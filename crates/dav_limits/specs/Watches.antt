@@ -5,7 +5,7 @@ use Rattle.dav_core.specs.Path.{names}
 use Rattle.dav_core.specs.World.{IsWorld}
 use Rattle.dav_server.specs.Machine.{Exchange, Settings}
 use Rattle.dav_server.specs.Server.{Server}
-use Rattle.dav_http.specs.Amounts.{amount_at, amount_of}
+use Rattle.dav_store.specs.Used.{amount_at, amount_of}
 use Rattle.dav_confined.specs.Asked.{AskedView, IsAsked, IsUnread}
 use Rattle.dav_limits.specs.Parts.{part_of}
 use Rattle.dav_limits.specs.declared.watches.Part.{Part}

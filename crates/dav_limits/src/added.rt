@@ -8,7 +8,8 @@ use crate::part::nothing;
 use dav_confined::leave::Asked;
 use dav_core::errors::NoMemory;
 use dav_core::method::DavMethod;
-use dav_http::{Amount, Handler};
+use dav_http::Handler;
+use dav_store::memfs::Amount;
 use std::alloc::Global;
 
 // The first bytes of a file that Content-Range and X-Update-Range name, where they name some.

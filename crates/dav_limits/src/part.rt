@@ -2,7 +2,7 @@
 ghost use Rattle.std.specs.Prelude.{◌≡◌, ◌≤◌, ◌+◌, min, ◌||◌, ⊤, IfOk, MatchOption, Some};
 ghost use Rattle.dav_core.specs.Numbers.{max_u64};
 ghost use Rattle.dav_core.specs.Path.{is_at_or_under, is_same_path, names};
-ghost use Rattle.dav_http.specs.Amounts.{amount_of};
+ghost use Rattle.dav_store.specs.Used.{amount_of};
 ghost use Rattle.dav_confined.specs.Reached.{is_at_or_under_any};
 ghost use Rattle.dav_limits.specs.Added.{nothing};
 ghost use Rattle.dav_limits.specs.Parts.{part_of, under_where};
@@ -11,7 +11,8 @@ use dav_confined::leave::Asked;
 use dav_core::davpath::DavPath;
 use dav_core::errors::NoMemory;
 use dav_core::method::DavMethod;
-use dav_http::{Amount, Handler};
+use dav_http::Handler;
+use dav_store::memfs::Amount;
 use std::alloc::Global;
 
 /// Nothing.
@@ -150,7 +151,7 @@ fn part_asked(
         | DavMethod::Lock => Ok(Some(alone(handler, top, &asked.path))),
         DavMethod::Delete => Ok(Some(common(alloc, handler, top, &asked.path)?)),
         DavMethod::Copy => Ok(Some(arrived(alloc, handler, top, &asked.destination)?)),
-        DavMethod::Move => { Ok(moved(alloc, handler, top, &asked.path, &asked.destination)?) },
+        DavMethod::Move => Ok(moved(alloc, handler, top, &asked.path, &asked.destination)?),
         DavMethod::Get
         | DavMethod::Head
         | DavMethod::Options

@@ -13,7 +13,8 @@ use dav_confined::leave::Asked;
 use dav_core::davpath::DavPath;
 use dav_core::errors::NoMemory;
 use dav_core::method::DavMethod;
-use dav_http::{Amount, Handler, Head, firsts_in};
+use dav_http::{Handler, Head, firsts_in};
+use dav_store::memfs::Amount;
 use std::alloc::Global;
 
 // Of an amount what is measured.

@@ -7,7 +7,7 @@ ghost use Rattle.dav_engine.specs.Caller.{Caller};
 ghost use Rattle.dav_engine.specs.Reply.{Reply};
 ghost use Rattle.dav_http.specs.Steps.{IsStepFor};
 ghost use Rattle.dav_server.specs.Server.{Server};
-ghost use Rattle.dav_http.specs.Amounts.{amount_at};
+ghost use Rattle.dav_store.specs.Used.{amount_at};
 ghost use Rattle.dav_limits.specs.Watches.{AreExact, IsNoted, IsPart, NotedView};
 
 use crate::part::part_of;
@@ -15,7 +15,8 @@ use dav_access::Limit;
 use dav_confined::leave::Asked;
 use dav_core::davpath::DavPath;
 use dav_core::errors::NoMemory;
-use dav_http::{Amount, Handler};
+use dav_http::Handler;
+use dav_store::memfs::Amount;
 use std::alloc::Global;
 use std::marker::Model;
 
@@ -91,7 +92,7 @@ fn changed(was: Amount, before: Amount, after: Amount) -> Option<Amount>
 impl Watches {
     ghost use Rattle.std.specs.Prelude.{◌≡◌, [], ℕ, IfOk, List};
     ghost use Rattle.dav_core.specs.Path.{names};
-    ghost use Rattle.dav_http.specs.Amounts.{amount_at};
+    ghost use Rattle.dav_store.specs.Used.{amount_at};
     ghost use Rattle.dav_limits.specs.Watches.{AreExact, IsNoted};
 
     /// No paths.

@@ -27,6 +27,7 @@ use http::StatusCode;
 use std::alloc::Global;
 use std::io::SeekFrom;
 use std::marker::Model;
+pub use used::Amount;
 
 /// The most bytes that a file can hold.
 pub const MAX_FILE_LEN: u64 = 2_147_483_647;

@@ -5,8 +5,8 @@ use Rattle.dav_core.specs.declared.method.DavMethod.TheVariants.{MkCol, Lock as 
 use Rattle.dav_core.specs.Path.{PathText, names, path_cmp}
 use Rattle.dav_core.specs.World.{Nodes}
 use Rattle.dav_confined.specs.Asked.{AskedView}
-use Rattle.dav_http.specs.declared.amount.Amount.{Amount}
-use Rattle.dav_http.specs.Amounts.{amount_alone}
+use Rattle.dav_store.specs.declared.memfs.used.Amount.{Amount}
+use Rattle.dav_store.specs.Used.{amount_alone}
 use Rattle.dav_limits.specs.Added.{added_by, added_file}
 use Rattle.dav_limits.proofs.added.added.Goals as goal
 

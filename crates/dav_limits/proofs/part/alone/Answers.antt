@@ -2,8 +2,8 @@ use Rattle.std.proofs.Common.{◌≤◌, subst, sym, ◌∙◌}
 use Rattle.std.specs.FinMap.{find}
 use Rattle.dav_core.specs.Numbers.{max_u64}
 use Rattle.dav_core.specs.Path.{names, path_cmp}
-use Rattle.dav_http.specs.declared.amount.Amount.{Amount}
-use Rattle.dav_http.specs.Amounts.{amount_alone}
+use Rattle.dav_store.specs.declared.memfs.used.Amount.{Amount}
+use Rattle.dav_store.specs.Used.{amount_alone}
 use Rattle.dav_limits.proofs.PartLemmas.{amount_elsewhere, amount_single}
 use Rattle.dav_limits.proofs.part.alone.Goals as goal
 

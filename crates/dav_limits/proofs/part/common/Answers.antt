@@ -1,6 +1,6 @@
 use Rattle.std.proofs.Common.{ap, sym, ◌∙◌}
 use Rattle.dav_core.specs.Path.{names}
-use Rattle.dav_http.specs.Amounts.{amount_of}
+use Rattle.dav_store.specs.Used.{amount_of}
 use Rattle.dav_limits.proofs.PartLemmas.{lower, nowhere, upper}
 use Rattle.dav_limits.proofs.part.common.Goals as goal
 

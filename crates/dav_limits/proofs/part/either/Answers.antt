@@ -2,8 +2,8 @@ use Rattle.std.proofs.Common.{◌≡◌, ◌||◌, ◌+◌, ap, min, sym, ◌∙
 use Rattle.std.specs.Prelude.{⊤}
 use Rattle.dav_core.specs.Numbers.{max_u64}
 use Rattle.dav_core.specs.Path.{is_at_or_under, names}
-use Rattle.dav_http.specs.declared.amount.Amount.{Amount}
-use Rattle.dav_http.specs.Amounts.{amount_of}
+use Rattle.dav_store.specs.declared.memfs.used.Amount.{Amount}
+use Rattle.dav_store.specs.Used.{amount_of}
 use Rattle.dav_limits.specs.Parts.{under_where}
 use Rattle.dav_limits.proofs.PartLemmas.{either_first, either_second, either_sum, match_weaker}
 use Rattle.dav_limits.proofs.part.either.Goals as goal

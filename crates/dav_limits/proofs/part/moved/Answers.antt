@@ -2,8 +2,8 @@ use Rattle.std.proofs.Common.{◌≡◌, ◌||◌, MatchOption, Option, sym, sub
 use Rattle.std.specs.Prelude.{⊤}
 use Rattle.dav_core.specs.Path.{PathText, is_at_or_under, names}
 use Rattle.dav_confined.specs.Reached.{is_at_or_under_any}
-use Rattle.dav_http.specs.declared.amount.Amount.{Amount}
-use Rattle.dav_http.specs.Amounts.{amount_of}
+use Rattle.dav_store.specs.declared.memfs.used.Amount.{Amount}
+use Rattle.dav_store.specs.Used.{amount_of}
 use Rattle.dav_limits.specs.Parts.{under_where}
 use Rattle.dav_limits.proofs.part.moved.Goals as goal
 

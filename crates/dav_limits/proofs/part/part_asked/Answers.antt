@@ -4,8 +4,8 @@ use Rattle.dav_core.specs.declared.method.DavMethod.TheVariants.{Move}
 use Rattle.dav_core.specs.Path.{is_at_or_under, names}
 use Rattle.dav_confined.specs.Asked.{AskedView}
 use Rattle.dav_confined.specs.Reached.{is_at_or_under_any}
-use Rattle.dav_http.specs.declared.amount.Amount.{Amount}
-use Rattle.dav_http.specs.Amounts.{amount_of}
+use Rattle.dav_store.specs.declared.memfs.used.Amount.{Amount}
+use Rattle.dav_store.specs.Used.{amount_of}
 use Rattle.dav_limits.specs.Parts.{part_of, under_where}
 use Rattle.dav_limits.proofs.PartLemmas.{match_weaker}
 use Rattle.dav_limits.proofs.ReachLemmas.{IsQuiet, move_part, quiet_part}

@@ -1,7 +1,7 @@
 use Rattle.std.proofs.Common.{Option, ap, sym, ◌∙◌}
 use Rattle.dav_core.specs.Path.{names}
 use Rattle.dav_confined.specs.Asked.{AskedView}
-use Rattle.dav_http.specs.Amounts.{amount_of}
+use Rattle.dav_store.specs.Used.{amount_of}
 use Rattle.dav_limits.specs.Parts.{part_of}
 use Rattle.dav_limits.proofs.ReachLemmas.{unread_part}
 use Rattle.dav_limits.proofs.part.part_of.Goals as goal

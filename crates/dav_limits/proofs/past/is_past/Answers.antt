@@ -5,7 +5,7 @@ use Rattle.dav_server.specs.Headers.{headers_of}
 use Rattle.dav_server.specs.Machine.{Exchange}
 use Rattle.dav_server.proofs.HeadLemmas.{one_head}
 use Rattle.dav_confined.specs.Asked.{AskedView, IsAsked, IsUnread}
-use Rattle.dav_http.specs.declared.amount.Amount.{Amount}
+use Rattle.dav_store.specs.declared.memfs.used.Amount.{Amount}
 use Rattle.dav_http.specs.Placed.{AreFirsts}
 use Rattle.dav_limits.specs.Added.{added_by}
 use Rattle.dav_limits.specs.Limits.{is_past}

@@ -2,7 +2,7 @@ use Rattle.std.proofs.Common.{◌≡◌, All, sym, subst}
 use Rattle.std.proofs.lemmas.List.Elements.{All-nil}
 use Rattle.std.specs.Vec.Iter.{into_iter_items}
 use Rattle.dav_core.specs.Path.{names}
-use Rattle.dav_http.specs.Amounts.{amount_at}
+use Rattle.dav_store.specs.Used.{amount_at}
 use Rattle.dav_limits.specs.declared.watches.Watch.{Watch}
 use Rattle.dav_limits.specs.Watches.{AreExact, IsPart, NotedView}
 use Rattle.dav_limits.proofs.RenewLemmas.{renewed}

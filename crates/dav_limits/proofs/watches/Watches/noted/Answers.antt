@@ -3,7 +3,7 @@ use Rattle.std.proofs.lemmas.List.Elements.{All-nil}
 use Rattle.std.specs.Option.{option_copied}
 use Rattle.std.specs.Vec.Iter.{into_iter_items}
 use Rattle.dav_core.specs.Path.{names}
-use Rattle.dav_http.specs.Amounts.{amount_at}
+use Rattle.dav_store.specs.Used.{amount_at}
 use Rattle.dav_limits.specs.declared.watches.Watch.{Watch}
 use Rattle.dav_limits.specs.Watches.{AreExact, IsPart}
 use Rattle.dav_limits.proofs.WatchLemmas.{all_first, more_noted, noted_part}
