@@ -1,2 +1,3 @@
+mod FolderLemmas
 mod PartLemmas
 mod LawLemmas

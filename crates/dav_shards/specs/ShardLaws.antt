@@ -14,12 +14,12 @@ use Rattle.dav_confined.specs.Asked.{AskedView, IsAsked}
 use Rattle.dav_confined.specs.Seen.{AgreeAt, CoverAlike}
 use Rattle.dav_shards.specs.Shards.{elsewhere, is_here}
 
--- the machine reads this in the bytes of a request, and nothing of it is elsewhere
+-- the machine reads this in the bytes of a request, and no part of it names what is elsewhere
 abbrev pub IsHere : List PathText → Settings → Exchange → AskedView → Type 0
 IsHere folders s x a = IsAsked s x a × (elsewhere folders a ≡ None)
 
 -- Two servers that agree at these folders and below them, in what is there and in the locks that cover it, give the same reply, byte for
--- byte, to each GET, HEAD, OPTIONS or PROPFIND of which nothing is elsewhere, whatever else they hold: so one that has these folders alone
+-- byte, to each GET, HEAD, OPTIONS or PROPFIND that names nothing elsewhere, whatever else they hold: so one that has these folders alone
 -- answers as one that has all. The OPTIONS of `*` is left out, which asks for the server itself.
 abbrev pub AnswersTellOfHere : Type 0
 AnswersTellOfHere =
@@ -30,7 +30,7 @@ AnswersTellOfHere =
     → new.short ≡ false → new'.short ≡ false → old.refusals ≡ old'.refusals → IsWorld old.world → IsWorld old'.world
     → AgreeAt (is_here folders) old.world old'.world → CoverAlike (is_here folders) ls ks → reply ≡ reply'
 
--- A request of which nothing is elsewhere leaves the content at all paths that are elsewhere, and takes away no folder above them.
+-- A request that names nothing elsewhere leaves the content at all paths that are elsewhere, and takes away no folder above them.
 abbrev pub ChangesStayHere : Type 0
 ChangesStayHere =
     (folders : List PathText) (s : Settings) (x : Exchange) (a : AskedView) (old new : StoreState) (ls : List Lock) (ms : Locks) (reply : Reply)

@@ -7,8 +7,8 @@ use Rattle.dav_core.specs.declared.method.DavMethod.TheVariants.{Copy, Move}
 use Rattle.dav_core.specs.Path.{Path, PathText, is_at_or_under, names, star}
 use Rattle.dav_server.specs.Machine.{Exchange, Settings}
 use Rattle.dav_confined.specs.Asked.{AskedView, IsAsked}
-use Rattle.dav_shards.specs.declared.parts.Elsewhere.{Elsewhere}
-use Rattle.dav_shards.specs.declared.parts.Elsewhere.TheVariants.{Target, Destination, Condition}
+use Rattle.dav_shards.specs.declared.parts.Part.{Part}
+use Rattle.dav_shards.specs.declared.parts.Part.TheVariants.{Target, Destination, Condition}
 
 -- Whether a server has what is at a path that has these folders alone: it is at one of them, or below one. Where none is named, it has all.
 abbrev pub is_here : List PathText → Path → Bool
@@ -30,21 +30,21 @@ has_destination folders Copy destination = has_place folders destination
 has_destination folders Move destination = has_place folders destination
 has_destination folders method destination = true
 
--- What of what is asked is elsewhere: its target; else the path that Destination names (RFC 4918, section 10.3); else one of those of which
--- the lists of If speak (section 10.4.2).
-abbrev pub elsewhere : List PathText → AskedView → Option Elsewhere
+-- Which part of what is asked names what is elsewhere: the target; else Destination, of a COPY or MOVE (RFC 4918, section 10.3); else a list
+-- of If (section 10.4.2).
+abbrev pub elsewhere : List PathText → AskedView → Option Part
 elsewhere folders a =
     if not (has_target folders a) then Some Target
     else if not (has_destination folders a.method a.destination) then Some Destination
     else if not (list_all (is_here folders) a.spoken_of) then Some Condition
     else None
 
--- This of a request with this head, below this prefix, is elsewhere.
-pub record IsElsewhere (folders : List PathText) (prefix head : List ℕ) (what : Elsewhere) : Type 0 where
+-- This part of a request with this head, below this prefix, names what is elsewhere.
+pub record IsElsewhere (folders : List PathText) (prefix head : List ℕ) (part : Part) : Type 0 where
   pub settings : Settings
   pub exchange : Exchange
   pub below : settings.prefix ≡ prefix
   pub here : exchange.head ≡ head
   pub asks : AskedView
   pub asked : IsAsked settings exchange asks
-  pub is : elsewhere folders asks ≡ Some what
+  pub is : elsewhere folders asks ≡ Some part

@@ -1,8 +1,8 @@
-//! What of a request is elsewhere, for a server that has some folders alone.
+//! Which part of a request names what is elsewhere, for a server that has some folders alone.
 ghost use Rattle.std.specs.Prelude.{◌≡◌, IfOk, MatchOption};
 ghost use Rattle.std.specs.List.{list_all};
 ghost use Rattle.dav_core.specs.Path.{names};
-ghost use Rattle.dav_shards.specs.declared.parts.Elsewhere.{Elsewhere as ElsewhereValue};
+ghost use Rattle.dav_shards.specs.declared.parts.Part.{Part as PartValue};
 ghost use Rattle.dav_shards.specs.Shards as spec;
 
 use dav_confined::leave::Asked;
@@ -11,14 +11,14 @@ use dav_core::errors::NoMemory;
 use dav_core::method::DavMethod;
 use std::alloc::Global;
 
-/// What of a request is elsewhere.
+/// A part of a request that names a path.
 #[derive(Clone, Copy, Debug, PartialEq, Eq)]
-pub enum Elsewhere {
-    /// Its target (RFC 9110, section 15.5.20).
+pub enum Part {
+    /// Its target (RFC 9110, section 7.1).
     Target,
-    /// The path that its Destination names (RFC 4918, sections 9.8.5 and 9.9.4).
+    /// Its Destination (RFC 4918, section 10.3).
     Destination,
-    /// A path of which a list of its If speaks (RFC 4918, section 10.4.2).
+    /// A list of its If (RFC 4918, section 10.4.2).
     Condition,
 }
 
@@ -73,34 +73,33 @@ fn has_conditions(folders: &[DavPath], asked: &Asked) -> bool
     has_each(folders, &asked.spoken_of)
 }
 
-// What of a request is elsewhere, if anything is.
-fn elsewhere(folders: &[DavPath], asked: &Asked) -> Option<Elsewhere>
+// Which part of a request names what is elsewhere, if one does.
+fn elsewhere(folders: &[DavPath], asked: &Asked) -> Option<Part>
     ensures { result ≡ spec.elsewhere folders.now asked.now }
 {
     if !has_target(folders, asked) {
-        return Some(Elsewhere::Target);
+        return Some(Part::Target);
     }
     if !has_destination(folders, asked) {
-        return Some(Elsewhere::Destination);
+        return Some(Part::Destination);
     }
     if !has_conditions(folders, asked) {
-        return Some(Elsewhere::Condition);
+        return Some(Part::Condition);
     }
     None
 }
 
-/// What of a request with these bytes as its head, below a prefix, is elsewhere, for a server that has these folders alone, or all,
-/// where none is named: its target first, then the path that its Destination names, of a COPY or MOVE, then those of which its If
-/// speaks. `None` where nothing is, and where the machine reads no request: it answers that with an error. `NoMemory` where memory
-/// runs out.
-pub fn what_is_elsewhere(
+/// Which part of a request with these bytes as its head, below a prefix, names what is elsewhere, for a server that has these folders
+/// alone, or all, where none is given: its target, else the Destination of a COPY or MOVE, else a list of its If. `None` where none
+/// does, and where the machine reads no request: it answers that with an error. `NoMemory` where memory runs out.
+pub fn elsewhere_in(
     alloc: Global,
     folders: &[DavPath],
     head: &[u8],
     prefix: &str,
-) -> Result<Option<Elsewhere>, NoMemory>
-    ensures { IfOk result (λ what. MatchOption what
-        ((w : ElsewhereValue) → ¬ spec.IsElsewhere folders.now prefix.now head.now w)
+) -> Result<Option<Part>, NoMemory>
+    ensures { IfOk result (λ part. MatchOption part
+        ((p : PartValue) → ¬ spec.IsElsewhere folders.now prefix.now head.now p)
         (spec.IsElsewhere folders.now prefix.now head.now)) }
 {
     if folders.is_empty() {

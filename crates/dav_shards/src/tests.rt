@@ -1,10 +1,9 @@
-//! What of a request is elsewhere, as rows of text.
-use crate::{Elsewhere, what_is_elsewhere};
-use dav_core::davpath::DavPath;
+//! Which part of a request names what is elsewhere, as rows of text.
+use crate::{Part, elsewhere_in, first_folder};
 use std::alloc::Global;
 use std::test::Fail;
 
-// A request, its fields after bars; what of it is elsewhere where `/a` and `/b c` alone are here, below `/dav`, or `-`.
+// A request, its fields after bars; the part of it that names what is elsewhere, or `-`, where `/a` and `/b c` alone are here, below `/dav`.
 const HEADS: &str = "\
 # at a folder and below it
 GET /dav/a -> -
@@ -89,12 +88,12 @@ fn head_of(alloc: Global, lines: &str) -> Result<String, Fail> {
     Ok(head)
 }
 
-// What is elsewhere, as a word.
-fn word_of(what: Option<Elsewhere>) -> &'static str {
-    match what {
-        Some(Elsewhere::Target) => "target",
-        Some(Elsewhere::Destination) => "destination",
-        Some(Elsewhere::Condition) => "condition",
+// A part, as a word.
+fn word_of(part: Option<Part>) -> &'static str {
+    match part {
+        Some(Part::Target) => "target",
+        Some(Part::Destination) => "destination",
+        Some(Part::Condition) => "condition",
         None => "-",
     }
 }
@@ -103,17 +102,32 @@ fn word_of(what: Option<Elsewhere>) -> &'static str {
 fn heads_are_here(rt: HostRuntime) -> Result<(), Fail> {
     let mut folders = Vec::new(rt.alloc());
     let none = Vec::new(rt.alloc());
-    for name in ["/a", "/b c"] {
-        folders.push(DavPath::from_parts(rt.alloc(), "", name.as_bytes())?)?;
+    for name in ["a", "b c"] {
+        folders.push(first_folder(rt.alloc(), name)?.ok_or("no name")?)?;
     }
     for row in HEADS.lines() {
         if let Some((lines, wanted)) = parts(row) {
             let head = head_of(rt.alloc(), lines)?;
-            let found = what_is_elsewhere(rt.alloc(), &folders, head.as_bytes(), "/dav")?;
+            let found = elsewhere_in(rt.alloc(), &folders, head.as_bytes(), "/dav")?;
             assert!(&rt; word_of(found) == wanted, "{row}");
-            let all = what_is_elsewhere(rt.alloc(), &none, head.as_bytes(), "/dav")?;
+            let all = elsewhere_in(rt.alloc(), &none, head.as_bytes(), "/dav")?;
             assert!(&rt; all.is_none(), "{row}, of a server that has all");
         }
+    }
+    Ok(())
+}
+
+#[test]
+fn folders_have_names(rt: HostRuntime) -> Result<(), Fail> {
+    for text in ["", ".", "..", "/", "a/b", "/a", "a/", "a\0"] {
+        let folder = first_folder(rt.alloc(), text)?;
+        assert!(&rt; folder.is_none(), "{text:?}");
+    }
+    for text in ["a", "b c", "...", "%2e", "a?b", "\u{e4}"] {
+        let folder = first_folder(rt.alloc(), text)?.ok_or("no name")?;
+        let mut names = folder.segments();
+        assert!(&rt; names.next() == Some(text.as_bytes()), "{text:?}");
+        assert!(&rt; names.next().is_none(), "{text:?}");
     }
     Ok(())
 }
