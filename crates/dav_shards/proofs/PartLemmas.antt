@@ -104,9 +104,3 @@ none_elsewhere a =
 -- a server that has all refuses nothing
 pub all_told : (prefix head : List ℕ) (p : Part) → ¬ IsElsewhere [] prefix head p
 all_told prefix head p e = let same : Some p ≡ None = sym e.is ∙ none_elsewhere e.asks in cc
-
-pub at_none : {A N : Type 0} (P : A → Type 0) (o : Option A) → o ≡ None → MatchOption o N P → N
-at_none {A} {N} P o e m = subst (λ (t : Option A). MatchOption t N P) e m
-
-pub at_some : {A : Type 0} (N : Type 0) (P : A → Type 0) (o : Option A) (a : A) → o ≡ Some a → MatchOption o N P → P a
-at_some {A} N P o a e m = subst (λ (t : Option A). MatchOption t N P) e m
