@@ -5,6 +5,7 @@ use Rattle.dav_access.specs.declared.limit.Limit.{Limit}
 use Rattle.dav_access.specs.Rules.{Rules}
 use Rattle.dav_confined.specs.Leave.{Permits}
 use Rattle.dav_confined.specs.Sight.{Looks}
+use Rattle.dav_core.specs.Path.{PathText}
 use Rattle.dav_core.specs.World.{last_moment}
 use Rattle.dav_core.specs.declared.errors.DavError.TheVariants.{IllegalPath}
 use Rattle.dav_core.specs.declared.method.DavMethod.TheVariants.{Get}
@@ -14,6 +15,9 @@ use Rattle.dav_http.specs.Placed.{BeginsPast}
 use Rattle.dav_kept.specs.Records.{RequestView}
 use Rattle.dav_server.specs.Head.{Request}
 use Rattle.dav_server.specs.Target.{TargetNames}
+use Rattle.dav_shards.specs.Shards.{IsElsewhere}
+use Rattle.dav_shards.specs.declared.parts.Part.{Part}
+use Rattle.dav_shards.specs.declared.parts.Part.TheVariants.{Target, Destination, Condition}
 use Rattle.dav_live.specs.Clock.{moment_after}
 use Rattle.dav_live.specs.Hosts.{TellsFor, value_of}
 use Rattle.dav_live.specs.Numbered.{HasNumber}
@@ -25,12 +29,12 @@ use Rattle.dav_live.specs.declared.admission.Admitted.{Admitted}
 use Rattle.dav_live.specs.declared.admission.Decision.{Decision}
 use Rattle.dav_live.specs.declared.admission.Decision.TheVariants.{Look, Refused, Run}
 use Rattle.dav_live.specs.declared.admission.Reason.{Reason}
-use Rattle.dav_live.specs.declared.admission.Reason.TheVariants.{Misdirected, Unauthorized, Forbidden, TooLong, Outside, ReadOnly, TooFar, Swollen}
+use Rattle.dav_live.specs.declared.admission.Reason.TheVariants.{Misdirected, Unauthorized, Forbidden, Elsewhere, TooLong, Outside, ReadOnly, TooFar, Swollen}
 
 -- What a server goes by: the prefix of its paths, the names of its host, the most seconds for which a lock is granted, whether a PROPFIND
 -- without a Depth is left to the machine, whether requests may only read, its users, if it has a list of them, the rules of access, if it
--- has any, the limits of its settings, all limits, the moment, in seconds since 1970, the seconds that the front's steady clock told last,
--- if it did, the random bytes of its tokens, and the most bytes of a body.
+-- has any, the limits of its settings, all limits, the folders that it has, or none where it has all, the moment, in seconds since 1970,
+-- the seconds that the front's steady clock told last, if it did, the random bytes of its tokens, and the most bytes of a body.
 pub record AdmissionView : Type 0 where
   pub prefix : List ℕ
   pub hosts : List (List ℕ)
@@ -41,6 +45,7 @@ pub record AdmissionView : Type 0 where
   pub rules : Option Rules
   pub own : List Limit
   pub limits : List Limit
+  pub only : List PathText
   pub moment : ℕ
   pub seconds : Option ℕ
   pub random : List ℕ
@@ -89,6 +94,14 @@ LooksIn a user head = ((user ≢ None) ⊎ (a.users ≡ None)) × ((rules : Rule
 abbrev pub MayAskIn : AdmissionView → Option (List ℕ) → List ℕ → Type 0
 MayAskIn a user head = HasLeaveIn a user head ⊎ LooksIn a user head
 
+-- this part of a request of which this head is kept names what is elsewhere
+abbrev pub IsElsewhereIn : AdmissionView → List ℕ → Part → Type 0
+IsElsewhereIn a head part = IsElsewhere a.only a.prefix head part
+
+-- no part of it does
+abbrev pub IsHereIn : AdmissionView → List ℕ → Type 0
+IsHereIn a head = (part : Part) → ¬ IsElsewhere a.only a.prefix head part
+
 -- why a request of this user isn't run that has no leave
 abbrev pub reason_for : Option (List ℕ) → Reason
 reason_for None = Unauthorized
@@ -104,8 +117,9 @@ HasSwollenBody r body = TakesTree r.method × IsSwollen body
 
 -- A request isn't run, for the first of these reasons that applies: it is for another host (RFC 9110, section 7.4); no user is shown, but this
 -- name (RFC 9110, section 15.5.2); its body would be read as far more than it is (section 15.5.14); its paths have too many slashes; its target
--- isn't below the prefix; requests may only read; what would be run of it has no leave, and may not look either (RFC 9110, section 15.5.4); it
--- begins to write past what a body may have (section 15.5.14). With it the user.
+-- isn't below the prefix; requests may only read; what would be run of it has no leave, and may not look either (RFC 9110, section 15.5.4); this
+-- part of it names what is elsewhere (RFC 9110, section 15.5.20; RFC 4918, sections 9.8.5, 9.9.4 and 10.4); it begins to write past what a body
+-- may have (RFC 9110, section 15.5.14). With it the user.
 pub data IsTurnedAway (a : AdmissionView) (r : Request) (body : List ℕ) : Reason → List ℕ → Type 0 where
   misdirected : TellsFor a.hosts (value_of (codes "host") r) false → IsTurnedAway a r body Misdirected []
   unknown : (shown : List ℕ) → TellsFor a.hosts (value_of (codes "host") r) true
@@ -118,8 +132,10 @@ pub data IsTurnedAway (a : AdmissionView) (r : Request) (body : List ℕ) : Reas
       → IsClosedTo a r → IsTurnedAway a r body ReadOnly (unwrap_or user [])
   without_leave : (user : Option (List ℕ)) (head : List ℕ) → IsLetIn a r user → ¬ HasSwollenBody r body → ¬ HasManySlashes r
       → ¬ IsOutside a.prefix r → ¬ IsClosedTo a r → IsHeadKept a r head → ¬ HasLeaveIn a user head → ¬ LooksIn a user head → IsTurnedAway a r body (reason_for user) (unwrap_or user [])
+  elsewhere : (user : Option (List ℕ)) (head : List ℕ) (part : Part) → IsLetIn a r user → ¬ HasSwollenBody r body → ¬ HasManySlashes r
+      → ¬ IsOutside a.prefix r → ¬ IsClosedTo a r → IsHeadKept a r head → MayAskIn a user head → IsElsewhereIn a head part → IsTurnedAway a r body (Elsewhere part) (unwrap_or user [])
   too_far : (user : Option (List ℕ)) (head : List ℕ) → IsLetIn a r user → ¬ HasSwollenBody r body → ¬ HasManySlashes r
-      → ¬ IsOutside a.prefix r → ¬ IsClosedTo a r → IsHeadKept a r head → HasLeaveIn a user head → BeginsPast a.most_body r → IsTurnedAway a r body TooFar (unwrap_or user [])
+      → ¬ IsOutside a.prefix r → ¬ IsClosedTo a r → IsHeadKept a r head → HasLeaveIn a user head → IsHereIn a head → BeginsPast a.most_body r → IsTurnedAway a r body TooFar (unwrap_or user [])
 
 -- The token for a lock that a request may create: a LOCK with a body gets that of the next number, and no other request gets one (RFC
 -- 4918, sections 6.5 and 9.10.2).
@@ -128,7 +144,7 @@ pub data IsTokenFor (random : List ℕ) (number : ℕ) (method body : List ℕ) 
   none : (method ≢ codes "LOCK") ⊎ (body ≡ []) → IsTokenFor random number method body None
 
 -- The request that is run of one that came with this body, where tokens of so many numbers were given: the head that is kept of it, the
--- body, the moment, who makes it, and the token for a lock. It has leave, and writes within what a body may have.
+-- body, the moment, who makes it, and the token for a lock. It has leave, names nothing elsewhere, and writes within what a body may have.
 pub record IsRequestOf (a : AdmissionView) (tokens : ℕ) (came : Request) (body : List ℕ) (q : RequestView) : Type 0 where
   pub let_in : IsLetIn a came q.principal
   pub lean : ¬ HasSwollenBody came body
@@ -139,13 +155,14 @@ pub record IsRequestOf (a : AdmissionView) (tokens : ℕ) (came : Request) (body
   pub is_kept : IsKeptOf a.lock_time a.strict came kept
   pub says : Says q.head kept
   pub leave : HasLeaveIn a q.principal q.head
+  pub here : IsHereIn a q.head
   pub within : ¬ BeginsPast a.most_body came
   pub body_is : q.body ≡ body
   pub moment : q.moment ≡ a.moment
   pub token : IsTokenFor a.random tokens came.method body q.token
 
 -- The request that looks at a folder on the way, of one that came with this body: the head that is kept of it, the body, the moment, and who
--- makes it. It has no leave to be run.
+-- makes it. It has no leave to be run, and names nothing elsewhere.
 pub record IsLookOf (a : AdmissionView) (came : Request) (body : List ℕ) (q : RequestView) : Type 0 where
   pub let_in : IsLetIn a came q.principal
   pub lean : ¬ HasSwollenBody came body
@@ -155,6 +172,7 @@ pub record IsLookOf (a : AdmissionView) (came : Request) (body : List ℕ) (q : 
   pub kept : IsHeadKept a came q.head
   pub lacks : ¬ HasLeaveIn a q.principal q.head
   pub looks : LooksIn a q.principal q.head
+  pub here : IsHereIn a q.head
   pub body_is : q.body ≡ body
   pub moment : q.moment ≡ a.moment
   pub token : q.token ≡ None
@@ -180,11 +198,18 @@ IsDecision a tokens came body (Look admitted) = IsLookOf a came body (request_in
 IsDecision a tokens came body (Run admitted) =
     IsRequestOf a tokens came body (request_in a admitted body) × TellsSafe came admitted.only_reads
 
--- the status of a reason (RFC 9110, sections 15.5.2, 15.5.4, 15.5.5, 15.5.14, 15.5.15 and 15.5.20)
+-- the status where this part of a request names what is elsewhere (RFC 9110, section 15.5.20; RFC 4918, sections 9.8.5, 9.9.4 and 10.4)
+abbrev pub status_elsewhere : Part → ℕ
+status_elsewhere Target = 421
+status_elsewhere Destination = 502
+status_elsewhere Condition = 412
+
+-- the status of a reason (RFC 9110, sections 15.5.2, 15.5.4, 15.5.5, 15.5.13, 15.5.14, 15.5.15, 15.5.20 and 15.6.3)
 abbrev pub status_of : Reason → ℕ
 status_of Misdirected = 421
 status_of Unauthorized = 401
 status_of Forbidden = 403
+status_of (Elsewhere part) = status_elsewhere part
 status_of TooLong = 414
 status_of ReadOnly = 403
 status_of Outside = 404

@@ -3,7 +3,7 @@ ghost use Rattle.std.specs.Prelude.{◌≡◌, ◌≢◌, ◌↔◌, [], IfOk, I
 ghost use Rattle.std.specs.Bool.{Decides};
 ghost use Rattle.http_server.specs.Response.{IsBlank, IsResponse};
 ghost use Rattle.dav_core.specs.declared.errors.DavError.TheVariants.{IllegalPath, Memory};
-ghost use Rattle.dav_live.specs.Admission.{HasManySlashes, HasSwollenBody, IsOutside, IsTokenFor, challenge_fields, reason_for, refusal_fields, slashes_in, status_of};
+ghost use Rattle.dav_live.specs.Admission.{HasManySlashes, HasSwollenBody, IsOutside, IsTokenFor, challenge_fields, reason_for, refusal_fields, slashes_in, status_elsewhere, status_of};
 ghost use Rattle.dav_live.specs.declared.admission.RefusedRequest.{RefusedRequest as RefusedValue};
 
 mod judging;
@@ -24,6 +24,7 @@ use dav_core::method::DavMethod;
 use dav_http::{Head, begins_past, is_lock, is_safe, takes_tree};
 use dav_server::exchange::LAST_MOMENT;
 use dav_server::target::path_of;
+use dav_shards::{Part, elsewhere_in};
 use dav_wire::Stop;
 use http::StatusCode;
 use http_header::{HeaderValue, WWW_AUTHENTICATE};
@@ -43,6 +44,8 @@ pub enum Reason {
     Unauthorized,
     /// It has no leave, by the rules (403).
     Forbidden,
+    /// This part of it names what is elsewhere (421, 502, 412).
+    Elsewhere(Part),
     /// Its target or its Destination has too many slashes (414).
     TooLong,
     /// Its target isn't at or below the prefix (404).
@@ -56,7 +59,7 @@ pub enum Reason {
 }
 
 impl Reason {
-    /// The status of the response (RFC 9110, sections 15.5.2, 15.5.4, 15.5.5, 15.5.14, 15.5.15 and 15.5.20).
+    /// The status of the response (RFC 9110, sections 15.5.2, 15.5.4, 15.5.5, 15.5.13, 15.5.14, 15.5.15, 15.5.20 and 15.6.3).
     pub fn status(self) -> StatusCode
         ensures { result ≡ status_of self }
     {
@@ -64,10 +67,23 @@ impl Reason {
             Reason::Misdirected => StatusCode::MISDIRECTED_REQUEST,
             Reason::Unauthorized => StatusCode::UNAUTHORIZED,
             Reason::Forbidden | Reason::ReadOnly => StatusCode::FORBIDDEN,
+            Reason::Elsewhere(part) => status_elsewhere(part),
             Reason::TooLong => StatusCode::URI_TOO_LONG,
             Reason::Outside => StatusCode::NOT_FOUND,
             Reason::TooFar | Reason::Swollen => StatusCode::PAYLOAD_TOO_LARGE,
         }
+    }
+}
+
+// The status where this part of a request names what is elsewhere (RFC 9110, section 15.5.20; RFC 4918, sections 9.8.5, 9.9.4 and
+// 10.4).
+fn status_elsewhere(part: Part) -> StatusCode
+    ensures { result ≡ status_elsewhere part }
+{
+    match part {
+        Part::Target => StatusCode::MISDIRECTED_REQUEST,
+        Part::Destination => StatusCode::BAD_GATEWAY,
+        Part::Condition => StatusCode::PRECONDITION_FAILED,
     }
 }
 
@@ -134,6 +150,7 @@ impl Model for Admission {
       rules = a.rules;
       own = a.settings.limits.items;
       limits = a.limits.items;
+      only = a.settings.only.items;
       moment = a.moment;
       seconds = a.seconds;
       random = a.random;
@@ -225,7 +242,7 @@ impl Admission {
     ghost use Rattle.dav_access.specs.Users.{IsName};
     ghost use Rattle.dav_core.specs.World.{last_moment};
     ghost use Rattle.dav_http.specs.Placed.{BeginsPast};
-    ghost use Rattle.dav_live.specs.Admission.{HasManySlashes, HasLeaveIn, HasSwollenBody, IsDecision, IsClosedTo, IsHeadKept, IsLetIn, IsMadeBy, LooksIn, MayAskIn, IsOutside, IsRequestOf, TellsSafe, after_clocks, request_in, users_for, with_random};
+    ghost use Rattle.dav_live.specs.Admission.{HasManySlashes, HasLeaveIn, HasSwollenBody, IsDecision, IsClosedTo, IsElsewhereIn, IsHeadKept, IsHereIn, IsLetIn, IsMadeBy, LooksIn, MayAskIn, IsOutside, IsRequestOf, TellsSafe, after_clocks, request_in, users_for, with_random};
     ghost use Rattle.dav_live.specs.Hosts.{value_of};
     ghost use Rattle.dav_live.specs.Lists.{IsFaulty, Reports};
 
@@ -246,6 +263,7 @@ impl Admission {
           rules = lists.rules;
           own = settings.limits.items;
           limits = settings.limits.items ++ lists.limits.items;
+          only = settings.only.items;
           moment = min moment last_moment;
           seconds = None;
           random = replicate 16 0;
@@ -390,6 +408,15 @@ impl Admission {
         self.settings.read_only && !is_safe(head.method())
     }
 
+    // Which part of a request names what is elsewhere of which this head is kept, if one does.
+    fn elsewhere_in(&self, kept: &[u8]) -> Result<Option<Part>, Stop>
+        ensures { IfOk result (λ part. MatchOption part (IsHereIn self.now kept.now)
+            (IsElsewhereIn self.now kept.now)) }
+    {
+        let below = self.settings.prefix.as_str();
+        Ok(elsewhere_in(self.alloc, &self.settings.only, kept, below)?)
+    }
+
     // What becomes of a request that is let in, of this user: nothing is read of a body that would swell.
     fn admit_lean(
         &self,
@@ -434,6 +461,9 @@ impl Admission {
         if !self.has_leave(principal.as_deref(), &kept)? {
             return self.look_of(principal, kept, head);
         }
+        if let Some(part) = self.elsewhere_in(&kept)? {
+            return Ok(refused_of(self.alloc, Reason::Elsewhere(part), principal));
+        }
         if begins_past(self.alloc, head, self.settings.most_body)? {
             return Ok(refused_of(self.alloc, Reason::TooFar, principal));
         }
@@ -459,6 +489,9 @@ impl Admission {
         if !self.may_look(principal.as_deref(), &bytes)? {
             return Ok(refused_of(self.alloc, reason_for(&principal), principal));
         }
+        if let Some(part) = self.elsewhere_in(&bytes)? {
+            return Ok(refused_of(self.alloc, Reason::Elsewhere(part), principal));
+        }
         Ok(Decision::Look(Admitted {
             head: bytes,
             principal,
@@ -482,6 +515,7 @@ impl Admission {
         requires open_to { ¬ IsClosedTo self.now head.now }
         requires kept { IsHeadKept self.now head.now kept.items }
         requires leave { HasLeaveIn self.now (option_map string_bytes principal) kept.items }
+        requires here { IsHereIn self.now kept.items }
         requires within { ¬ BeginsPast self.now.most_body head.now }
         requires lean { ¬ HasSwollenBody head.now body.now }
         ensures request { IfOk result (λ admitted. IsRequestOf self.now tokens head.now body.now

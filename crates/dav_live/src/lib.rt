@@ -27,6 +27,7 @@ mod token;
 mod told;
 
 pub use dav_access::{AccessError, Limit, Measure, UsersError};
+pub use dav_shards::first_folder;
 pub use fault::{Fault, OpenError};
 pub use limits::limit_of_all;
 pub use lists::{Lists, ListsError};

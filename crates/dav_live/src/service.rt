@@ -66,6 +66,7 @@ impl<H: Ends + Drop, J: Keeps + Drop> Service<H, J> {
           rules = lists.rules;
           own = settings.limits.items;
           limits = settings.limits.items ++ lists.limits.items;
+          only = settings.only.items;
           moment = min (held_of s).latest last_moment;
           seconds = None;
           random = replicate 16 0;

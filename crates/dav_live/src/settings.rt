@@ -1,5 +1,6 @@
 //! What a server is told when it begins.
 use dav_access::Limit;
+use dav_core::davpath::DavPath;
 
 /// The settings of a server.
 #[derive(Drop)]
@@ -23,6 +24,8 @@ pub struct Settings {
     pub short_journal: usize,
     /// How much the server may hold: files and folders, and bytes, at paths and below them. Those of the rules hold besides.
     pub limits: Vec<Limit>,
+    /// The folders that the server has: what is neither at one of them nor below it is elsewhere. All, where none is told.
+    pub only: Vec<DavPath>,
     /// Whether a line is written of each request.
     pub logs: bool,
 }

@@ -1,5 +1,5 @@
 //! The arguments of the program.
-use dav_live::{Limit, Measure, Settings, limit_of_all};
+use dav_live::{Limit, Measure, Settings, first_folder, limit_of_all};
 use std::alloc::{AllocError, AllocFailed, Global};
 use std::env::Args;
 use thiserror::Error;
@@ -32,7 +32,7 @@ pub struct Options {
 #[derive(Debug, Drop, Error)]
 pub enum OptionsError {
     /// There is no folder among them.
-    #[error("usage: dav-serve FOLDER [--prefix /PATH] [--host NAME].. [--lock-time SECONDS] [--body BYTES] [--waiting BYTES] [--files COUNT] [--space BYTES] [--snapshot-past BYTES] [--strict] [--read-only] [--log] [--wait]")]
+    #[error("usage: dav-serve FOLDER [--prefix /PATH] [--host NAME].. [--lock-time SECONDS] [--body BYTES] [--waiting BYTES] [--files COUNT] [--space BYTES] [--only NAME].. [--snapshot-past BYTES] [--strict] [--read-only] [--log] [--wait]")]
     NoFolder,
     /// No option has this name.
     #[error("'{0}' isn't an option")]
@@ -43,6 +43,9 @@ pub enum OptionsError {
     /// The option with this name has a value that isn't a number within its bounds.
     #[error("{0}: '{1}' isn't a number that it can be")]
     NoNumber(String, String),
+    /// A first folder is told by what can't be the name of one.
+    #[error("--only: '{0}' isn't the name of a folder")]
+    NoFolderName(String),
     /// All bodies that are being read may have fewer bytes together than one: so many.
     #[error("--waiting: {0} is less than --body")]
     FewWaiting(u64),
@@ -65,7 +68,7 @@ impl<T: Drop> From<AllocFailed<T>> for OptionsError {
 
 impl Options {
     /// The options of arguments: a folder, and then options, each with its value but for `--log`, `--strict`, `--read-only` and
-    /// `--wait`. Of an option that comes twice the last one counts, but for `--host`.
+    /// `--wait`. Of an option that comes twice the last one counts, but for `--host` and `--only`.
     pub fn read(alloc: Global, arguments: &mut Args) -> Result<Options, OptionsError> {
         let Some(folder) = arguments.next() else {
             return Err(OptionsError::NoFolder);
@@ -79,6 +82,7 @@ impl Options {
             most_body: BODY,
             most_waiting: 0,
             limits: Vec::new(alloc),
+            only: Vec::new(alloc),
             short_journal: SHORT_JOURNAL,
             logs: false,
         };
@@ -140,6 +144,7 @@ fn set(settings: &mut Settings, name: String, value: Option<String>) -> Result<(
             let most = number(name, value, u64::MAX)?;
             limit(&mut settings.limits, Measure::Space, most)?;
         }
+        "--only" => add_folder(settings, value)?,
         "--snapshot-past" => {
             let bytes = number(name, value, u64::MAX)?;
             settings.short_journal = usize::try_from(bytes).unwrap_or(usize::MAX);
@@ -161,6 +166,15 @@ fn limit(limits: &mut Vec<Limit>, measure: Measure, most: u64) -> Result<(), All
     Ok(limits.push(limit)?)
 }
 
+// Adds the first folder of this name to those that the server has.
+fn add_folder(settings: &mut Settings, name: String) -> Result<(), OptionsError> {
+    let alloc = *settings.only.allocator();
+    match first_folder(alloc, name.as_str())? {
+        Some(folder) => Ok(settings.only.push(folder)?),
+        None => Err(OptionsError::NoFolderName(name)),
+    }
+}
+
 // Whether there is an option with this name that has a value.
 fn takes_value(name: &str) -> bool {
     matches!(
@@ -172,6 +186,7 @@ fn takes_value(name: &str) -> bool {
             | "--waiting"
             | "--files"
             | "--space"
+            | "--only"
             | "--snapshot-past"
     )
 }

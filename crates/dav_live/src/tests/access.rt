@@ -5,6 +5,7 @@ use crate::lists::{Lists, ListsError};
 use crate::settings::Settings;
 use bytes::Bytes;
 use dav_http::Head;
+use dav_shards::{Part, first_folder};
 use dav_wire::Rejection;
 use std::alloc::Global;
 use std::test::Fail;
@@ -78,6 +79,28 @@ YW5uYTph | REPORT /dav/ben -> run anna, run, run anna
 YW5uYTph | GET /dav/ben | Host: evil.example -> 421, 421, 421
 ";
 
+/// The same, by users and rules, and by rules alone that name everybody, of a server that has the first folders `public` and `anna` alone.
+const ELSEWHERE: &str = "\
+- | GET /dav/public/a -> run, run
+YW5uYTph | PUT /dav/anna/a -> run anna, 401
+YW5uYTph | GET /dav/shared/a -> 421 anna, 401
+YW5uYTph | GET /dav/publicly/a -> 403 anna, 401
+YW5uYTph | COPY /dav/public/a | Destination: /dav/anna/a -> run anna, 401
+# leave comes first
+- | GET /dav/shared/a -> 401, 401
+YW5uYTph | PUT /dav/shared/a -> 403 anna, 401
+YW5uYTph | MOVE /dav/anna/a | Destination: /dav/shared/a -> 403 anna, 401
+# a folder on the way that isn't here
+YW5uYTph | PROPFIND /dav -> 421 anna, 421
+- | GET /dav/ -> 401, 421
+YW5uYTph | OPTIONS * -> run anna, run
+# a list of If that speaks of what isn't here, and the most bytes of a body
+YW5uYTph | PUT /dav/anna/a | If: </dav/shared/b> (Not <DAV:no-lock>) -> 412 anna, 401
+YW5uYTph | PUT /dav/anna/a | If: </dav/public/b> (Not <DAV:no-lock>) -> run anna, 401
+YW5uYTph | GET /dav/shared/a | X-Update-Range: bytes=1000001- -> 421 anna, 401
+YW5uYTph | PATCH /dav/anna/a | If: </dav/shared/b> ([\"1\"]) | X-Update-Range: bytes=1000001- -> 412 anna, 401
+";
+
 /// The same, of requests with a long body, by users and rules: the status by which no byte of it is taken, and the user; or `-`.
 const LONG: &str = "\
 - | PUT /dav/public/a -> 401
@@ -113,26 +136,30 @@ USERS | @a = anna;@a = ben -> access: line 2: the group '@a' is defined twice
 USERS | @a = dora -> access: line 1: there is no user 'dora'
 ";
 
-// What goes by the users and the rules.
-fn by_both(alloc: Global) -> Result<Admission, Fail> {
+// What goes by the users and the rules, with these first folders.
+fn by_both(alloc: Global, only: &[&str]) -> Result<Admission, Fail> {
     let lists = Lists::read(alloc, Some(USERS.as_bytes()), Some(RULES.as_bytes()))?;
-    admission(alloc, lists)
+    admission(alloc, lists, only)
 }
 
-// What goes by the rules of everybody alone.
-fn by_rules(alloc: Global) -> Result<Admission, Fail> {
+// What goes by the rules of everybody alone, with these first folders.
+fn by_rules(alloc: Global, only: &[&str]) -> Result<Admission, Fail> {
     let lists = Lists::read(alloc, None, Some("read /public everybody".as_bytes()))?;
-    admission(alloc, lists)
+    admission(alloc, lists, only)
 }
 
 // What goes by the users alone.
 fn by_users(alloc: Global) -> Result<Admission, Fail> {
     let lists = Lists::read(alloc, Some(USERS.as_bytes()), None)?;
-    admission(alloc, lists)
+    admission(alloc, lists, &[])
 }
 
-// What goes by these users and rules, below `/dav`.
-fn admission(alloc: Global, lists: Lists) -> Result<Admission, Fail> {
+// What goes by these users and rules, below `/dav`, with the first folders of these names alone, or with all.
+fn admission(alloc: Global, lists: Lists, only: &[&str]) -> Result<Admission, Fail> {
+    let mut folders = Vec::new(alloc);
+    for name in only {
+        folders.push(first_folder(alloc, name)?.ok_or("no name")?)?;
+    }
     let settings = Settings {
         prefix: String::from_str(alloc, "/dav")?,
         hosts: Vec::new(alloc),
@@ -142,6 +169,7 @@ fn admission(alloc: Global, lists: Lists) -> Result<Admission, Fail> {
         most_body: 1_000_000,
         most_waiting: 1_000_000,
         limits: Vec::new(alloc),
+        only: folders,
         short_journal: 1_000_000,
         logs: false,
     };
@@ -182,9 +210,11 @@ fn decided(alloc: Global, admission: &mut Admission, head: &Head<'_>) -> Result<
         Decision::Look(admitted) => said(alloc, "look", admitted.user()),
         Decision::Refused(refused) => {
             let status = match refused.reason {
-                Reason::Misdirected => "421",
+                Reason::Misdirected | Reason::Elsewhere(Part::Target) => "421",
                 Reason::Unauthorized => "401",
                 Reason::Forbidden | Reason::ReadOnly => "403",
+                Reason::Elsewhere(Part::Destination) => "502",
+                Reason::Elsewhere(Part::Condition) => "412",
                 Reason::TooLong => "414",
                 Reason::Outside => "404",
                 Reason::TooFar | Reason::Swollen => "413",
@@ -197,8 +227,8 @@ fn decided(alloc: Global, admission: &mut Admission, head: &Head<'_>) -> Result<
 #[test]
 fn requests_are_let_in(rt: HostRuntime) -> Result<(), Fail> {
     let alloc = rt.alloc();
-    let mut both = by_both(alloc)?;
-    let mut rules = by_rules(alloc)?;
+    let mut both = by_both(alloc, &[])?;
+    let mut rules = by_rules(alloc, &[])?;
     let mut users = by_users(alloc)?;
     for row in REQUESTS.lines() {
         let Some((input, wanted)) = row.rsplit_once(" -> ") else {
@@ -210,6 +240,25 @@ fn requests_are_let_in(rt: HostRuntime) -> Result<(), Fail> {
         let other = decided(alloc, &mut rules, &head)?;
         let third = decided(alloc, &mut users, &head)?;
         let found = format!(in alloc; "{one}, {other}, {third}")?;
+        assert!(&rt; found.as_str() == wanted, "{row}\ngives: {found}");
+    }
+    Ok(())
+}
+
+#[test]
+fn requests_elsewhere_are_refused(rt: HostRuntime) -> Result<(), Fail> {
+    let alloc = rt.alloc();
+    let mut both = by_both(alloc, &["public", "anna"])?;
+    let mut rules = by_rules(alloc, &["public", "anna"])?;
+    for row in ELSEWHERE.lines() {
+        let Some((input, wanted)) = row.rsplit_once(" -> ") else {
+            continue;
+        };
+        let bytes = head_in(alloc, input, "")?;
+        let head = Head::read(&bytes).ok_or("no head")?;
+        let one = decided(alloc, &mut both, &head)?;
+        let other = decided(alloc, &mut rules, &head)?;
+        let found = format!(in alloc; "{one}, {other}")?;
         assert!(&rt; found.as_str() == wanted, "{row}\ngives: {found}");
     }
     Ok(())
@@ -233,7 +282,7 @@ fn judged(alloc: Global, admission: &mut Admission, head: &Head<'_>) -> Result<S
 #[test]
 fn long_bodies_need_leave(rt: HostRuntime) -> Result<(), Fail> {
     let alloc = rt.alloc();
-    let mut both = by_both(alloc)?;
+    let mut both = by_both(alloc, &[])?;
     for row in LONG.lines() {
         let Some((input, wanted)) = row.rsplit_once(" -> ") else {
             continue;
@@ -293,7 +342,7 @@ fn users_and_rules_are_read_together(rt: HostRuntime) -> Result<(), Fail> {
         let found = listed(alloc, users.as_deref(), access.as_deref())?;
         assert!(&rt; found.as_str() == wanted, "{row}\ngives: {found}");
         // The same where they are reported: at a fault both are as they were.
-        let mut both = by_both(alloc)?;
+        let mut both = by_both(alloc, &[])?;
         let report = report_of(alloc, users.as_deref(), access.as_deref())?;
         let fault = match both.hear_users(&report) {
             Ok(Some(ListsError::Memory)) | Err(_) => return Err("memory".into()),

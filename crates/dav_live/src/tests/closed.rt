@@ -58,6 +58,7 @@ fn admission(alloc: Global, users: Option<&[u8]>, read_only: bool) -> Result<Adm
         most_body: 1_000_000,
         most_waiting: 1_000_000,
         limits: Vec::new(alloc),
+        only: Vec::new(alloc),
         short_journal: 1_000_000,
         logs: false,
     };

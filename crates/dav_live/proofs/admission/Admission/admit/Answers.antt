@@ -1,8 +1,9 @@
-use Rattle.std.proofs.Common.{◌≡◌, ◌∙◌, List, ℕ, Option, sym, ap, subst, true≢false, rules, string_bytes, option_map}
+use Rattle.std.proofs.Common.{◌≡◌, ◌∙◌, List, ℕ, Option, inl, sym, ap, subst, true≢false, rules, string_bytes, option_map}
+use Rattle.std.proofs.lemmas.Option.{MatchOption-at_none, MatchOption-at_some}
 use Rattle.std.specs.Option.{option_copied}
 use Rattle.dav_http.specs.Placed.{BeginsPast}
-use Rattle.dav_live.specs.Admission.{AdmissionView, HasLeaveIn, HasManySlashes, IsClosedTo, IsOutside, closed, outside, too_far, too_long}
-use Rattle.dav_live.specs.declared.admission.Reason.TheVariants.{Outside, ReadOnly, TooFar, TooLong}
+use Rattle.dav_live.specs.Admission.{AdmissionView, HasLeaveIn, HasManySlashes, IsClosedTo, IsElsewhereIn, IsHereIn, IsOutside, closed, elsewhere, outside, too_far, too_long}
+use Rattle.dav_live.specs.declared.admission.Reason.TheVariants.{Elsewhere, Outside, ReadOnly, TooFar, TooLong}
 use Rattle.dav_live.proofs.AdmissionLemmas.{turned_away}
 use Rattle.dav_live.proofs.admission.Admission.admit.Goals as goal
 
@@ -32,6 +33,22 @@ returns-then-is_closed_to c =
     turned_away c.args.self.now c.args.tokens c.args.head.now c.args.body.now c.refused_of-then-is_closed_to.result r.0 ReadOnly _ r.1 r.2 r.3
     (closed (option_map string_bytes c.args.principal) c.requires.let_in c.requires.lean few (subst (λ p. ¬ IsOutside p c.args.head.now) prefix inside) is)
 
+pub returns-in-Some : goal.returns-in-Some
+returns-in-Some c =
+    let a = c.args.self.now in
+    let who = option_map string_bytes c.args.principal in
+    let r = c.refused_of-in-Some.ensures in
+    let few : ¬ HasManySlashes c.args.head.now = search rules in
+    let prefix : c.as_str.result.now ≡ a.prefix = c.as_str.ensures.value ∙ ap (λ (v : AdmissionView). v.prefix) c.self.view_is in
+    let inside : ¬ IsOutside c.as_str.result.now c.args.head.now = λ is. true≢false (sym (c.in_ok-is_outside.ensures.1 is) ∙ c.if-branch.false) in
+    let free : ¬ IsClosedTo a c.args.head.now = search rules in
+    let lent : option_copied c.as_deref.result ≡ who = search rules in
+    let has : HasLeaveIn a (option_copied c.as_deref.result) c.deref.result.now = search rules in
+    let there : IsElsewhereIn a c.in_ok-kept.kept.items c.in-Some.part = MatchOption-at_some _ _ c.in-Some.part c.in-Some.is c.in_ok-elsewhere_in.ensures in
+    turned_away a c.args.tokens c.args.head.now c.args.body.now c.refused_of-in-Some.result r.0 (Elsewhere c.in-Some.part) _ r.1 r.2 r.3
+    (elsewhere who c.in_ok-kept.kept.items c.in-Some.part c.requires.let_in c.requires.lean few (subst (λ p. ¬ IsOutside p c.args.head.now) prefix inside) free c.in_ok-kept.ensures
+    (inl (subst (λ (u : Option (List ℕ)). HasLeaveIn a u c.in_ok-kept.kept.items) lent (subst (λ (b : List ℕ). HasLeaveIn a (option_copied c.as_deref.result) b) c.deref.ensures.value has))) there)
+
 pub returns-then-branch-2 : goal.returns-then-branch-2
 returns-then-branch-2 c =
     let a = c.args.self.now in
@@ -44,9 +61,10 @@ returns-then-branch-2 c =
     let lent : option_copied c.as_deref.result ≡ who = search rules in
     let has : HasLeaveIn a (option_copied c.as_deref.result) c.deref.result.now = search rules in
     let past : BeginsPast a.most_body c.args.head.now = search rules in
+    let here : IsHereIn a c.in_ok-kept.kept.items = MatchOption-at_none _ _ c.in_default.is c.in_ok-elsewhere_in.ensures in
     turned_away a c.args.tokens c.args.head.now c.args.body.now c.refused_of-then-branch-2.result r.0 TooFar _ r.1 r.2 r.3
     (too_far who c.in_ok-kept.kept.items c.requires.let_in c.requires.lean few (subst (λ p. ¬ IsOutside p c.args.head.now) prefix inside) free c.in_ok-kept.ensures
-    (subst (λ (u : Option (List ℕ)). HasLeaveIn a u c.in_ok-kept.kept.items) lent (subst (λ (b : List ℕ). HasLeaveIn a (option_copied c.as_deref.result) b) c.deref.ensures.value has)) past)
+    (subst (λ (u : Option (List ℕ)). HasLeaveIn a u c.in_ok-kept.kept.items) lent (subst (λ (b : List ℕ). HasLeaveIn a (option_copied c.as_deref.result) b) c.deref.ensures.value has)) here past)
 
 pub admitted-requires-clause-within : goal.admitted-requires-clause-within
 admitted-requires-clause-within c =

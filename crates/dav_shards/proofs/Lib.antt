@@ -1,0 +1,3 @@
+mod FolderLemmas
+mod PartLemmas
+mod LawLemmas
