@@ -1,10 +1,11 @@
 -- A pair that only looks keeps what it kept.
-use Rattle.std.proofs.Common.{◌≡◌, ◌<◌, ◌^◌, ℕ, List, [], inl, sym, subst}
+use Rattle.std.proofs.Common.{◌≡◌, ◌<◌, ◌^◌, ℕ, List, [], ap, inl, refl, sym, ◌∙◌, subst}
 use Rattle.sqlite_disk.specs.declared.Disk.{Ghosts}
 use Rattle.dav_journal.specs.declared.journal.Journal.{Journal}
 use Rattle.dav_journal.specs.declared.pair.Pair.{Pair}
-use Rattle.dav_journal.specs.Journal.{IsKept, OnlyLooks}
-use Rattle.dav_journal.specs.Pair.{IsKeptPair, OnlyLooksPair, PairLeaves, PairLeavesOnly, with_generation}
+use Rattle.dav_journal.specs.Journal.{HasRead, IsKept, OnlyLooks, Stays}
+use Rattle.dav_journal.specs.Pair.{HasReadPair, IsKeptPair, IsSpare, OnlyLooksPair, OnlyReadsPair, PairLeaves, PairLeavesOnly, with_generation}
+use Rattle.dav_journal.proofs.JournalLemmas.{read_stays}
 use Rattle.dav_journal.proofs.PairLemmas.{kept_recovers, pair_alone}
 
 pub kept_looks : {D : Type 0} (g : Ghosts D) (old new : Journal D) (contents : List (List ℕ)) → OnlyLooks g old new → IsKept g old contents → IsKept g new contents
@@ -31,3 +32,32 @@ looks_only g old new contents l was c d may might =
 
 pub looks_leaves : {D : Type 0} (g : Ghosts D) (old new : Pair D) (contents others : List (List ℕ)) → OnlyLooksPair g old new → IsKeptPair g old contents → PairLeaves g new contents others
 looks_leaves g old new contents others l was c d may might = inl (looks_only g old new contents l was c d may might)
+
+-- a journal that only looks stays at its place
+pub looks_stay : {D : Type 0} (g : Ghosts D) (old new : Journal D) → OnlyLooks g old new → Stays g old new
+looks_stay g old new l = record { reads = l.reads; key = ap (λ j. j.key) l.same; end = ap (λ j. j.end) l.same; len = ap (λ j. j.len) l.same }
+
+pub stays_same : {D : Type 0} (g : Ghosts D) (j : Journal D) → Stays g j j
+stays_same g j = record { reads = record { seen = refl; crash = λ c may. may; clean = λ is. is }; key = refl; end = refl; len = refl }
+
+spare_stays : {D : Type 0} (g : Ghosts D) (old new : Journal D) (generation : ℕ) → Stays g old new → IsSpare g old generation → IsSpare g new generation
+spare_stays g old new generation s was = record {
+  small = rw s.key was.small;
+  has = rw (s.key, s.reads.seen) was.has;
+  only = λ c may. was.only c (s.reads.crash c may) ∙ sym s.reads.seen;
+  older = rw (s.reads.seen, s.key) was.older;
+}
+
+-- what was read of a pair is what it has, as long as both journals stay
+pub read_pair_stays : {D : Type 0} (g : Ghosts D) (old new : Pair D) (contents : List (List ℕ)) → Stays g old.counts new.counts → Stays g old.spare new.spare → new.generation ≡ old.generation
+    → HasReadPair g old contents → HasReadPair g new contents
+read_pair_stays g old new contents counts spare same was = record {
+  small = subst (λ (n : ℕ). n < 2 ^ 64) (sym same) was.small;
+  read = subst (λ (n : ℕ). HasRead g new.counts (with_generation n contents)) (sym same) (read_stays g old.counts new.counts _ counts was.read);
+  spare = subst (λ (n : ℕ). IsSpare g new.spare n) (sym same) (spare_stays g old.spare new.spare old.generation spare was.spare);
+  none = λ none. same ∙ was.none none;
+}
+
+-- what a crash leaves of a pair that was only read
+pub reads_only : {D : Type 0} (g : Ghosts D) (old new : Pair D) (contents : List (List ℕ)) → OnlyReadsPair g old new → PairLeavesOnly g old contents → PairLeavesOnly g new contents
+reads_only g old new contents r leaves c d may might = leaves c d (r.0.crash c may) (r.1.crash d might)

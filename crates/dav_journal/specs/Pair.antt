@@ -3,11 +3,12 @@
 use Rattle.std.specs.Prelude.{◌≡◌, ◌≢◌, ◌⊎◌, ℕ, ◌<◌, ◌^◌, List, Option, Some, None, MatchOption, length, slice_index, [], ◌∷◌, ◌++◌, IsTrue}
 use Rattle.std.specs.Bool.{⊤}
 use Rattle.std.specs.Int.{w64, to_be_bytes}
-use Rattle.sqlite_disk.specs.Disk.{Only}
+use Rattle.sqlite_disk.specs.Disk.{Holds, Only}
 use Rattle.sqlite_disk.specs.declared.Disk.{Ghosts}
 use Rattle.dav_journal.specs.Block.{AreBlocks, IsBlock, IsNoBlock}
 use Rattle.dav_journal.specs.File.{IsBegun, Recovers}
 use Rattle.dav_journal.specs.Journal.{HasFront, HasRead, IsClean, IsKept, IsOwn, IsReading, OnlyLooks, OnlyReads, Stays, disk_of, file_of}
+use Rattle.dav_journal.specs.Mark.{NoneMarkedPast}
 use Rattle.dav_journal.specs.declared.journal.Journal.{Journal}
 use Rattle.dav_journal.specs.declared.pair.Pair.{Pair}
 
@@ -180,6 +181,15 @@ IsOwnPair g p =
     IsOwn g p.counts (to_be_bytes w64 p.generation)
     × IsNoBlock p.spare.key (g.seen p.spare.disk) p.spare.end
 
+-- No other opening went on with the files of a pair since they were read: no mark says that the blocks
+-- of the file that counts reach further, and the first one is of the generation that was read; where
+-- there are none, no mark tells of one in the other file.
+pub record IsAsRead {D : Type 0} (g : Ghosts D) (p : Pair D) : Type 0 where
+  pub unmarked : NoneMarkedPast (g.seen p.counts.disk) p.counts.end
+  pub first : p.counts.end ≢ 72 → (slice_index (g.seen p.counts.disk) 72 ≡ 1)
+      × Holds (g.seen p.counts.disk) 121 (to_be_bytes w64 p.generation)
+  pub other : p.counts.end ≡ 72 → NoneMarkedPast (g.seen p.spare.disk) p.spare.end
+
 -- Another opening went on with the files of a pair: in the one that counts a block is behind those
 -- that the pair knows; or it knows some, and the file has blocks of another generation, or none; or
 -- a block is in the other file.
@@ -193,3 +203,30 @@ pub data IsPassed {D : Type 0} (g : Ghosts D) (p : Pair D) : Type 0 where
   cleared : p.counts.end ≢ 72 → slice_index (g.seen p.counts.disk) 72 ≢ 1 → IsPassed g p
   other : (block : List ℕ) → IsBlock p.spare.key (g.seen p.spare.disk) p.spare.end block
       → IsPassed g p
+
+-- Two journals are over one file, and have the same key of it.
+pub record AreOfOneFile {D : Type 0} (g : Ghosts D) (one other : Journal D) : Type 0 where
+  pub file : file_of g other ≡ file_of g one
+  pub key : other.key ≡ one.key
+
+-- A pair knows these contents: the file that counts had blocks of them at some time, up to where it
+-- takes them to end; and the other one had none.
+pub record Knows {D : Type 0} (p : Pair D) (contents : List (List ℕ)) : Type 0 where
+  pub small : p.generation < 2 ^ 64
+  pub file : List ℕ
+  pub blocks : AreBlocks p.counts.key file 72 (with_generation p.generation contents) p.counts.end
+  pub spare : p.spare.end ≡ 72
+
+-- What a later opening of the same files keeps, where an earlier one knows these contents: a block more
+-- behind them; or blocks of another generation in that file; or blocks in the other one.
+pub data GoesOn {D : Type 0} (g : Ghosts D) (earlier later : Pair D) (contents : List (List ℕ))
+    : List (List ℕ) → Type 0 where
+  with_more : (opening : List ℕ) (more : List (List ℕ))
+      → AreOfOneFile g earlier.counts later.counts → later.generation ≡ earlier.generation
+      → GoesOn g earlier later contents (contents ++ opening ∷ more)
+  begun_anew : (opening : List ℕ) (more : List (List ℕ))
+      → AreOfOneFile g earlier.counts later.counts → later.generation ≢ earlier.generation
+      → GoesOn g earlier later contents (opening ∷ more)
+  in_the_other : (opening : List ℕ) (more : List (List ℕ))
+      → AreOfOneFile g earlier.spare later.counts
+      → GoesOn g earlier later contents (opening ∷ more)

@@ -1,11 +1,11 @@
 //! A pair of journals over two files, of which one counts, so that what is kept can begin anew.
-ghost use Rattle.std.specs.Prelude.{◌≡◌, ◌≢◌, ◌⊎◌, ◌≤◌, ◌<◌, ◌+◌, ◌^◌, ◌++◌, ◌∷◌, [], ℕ, List, Option, length, slice_index, IsTrue, IfOk, IfSome, OnOk, IsErrOf, MatchOption};
+ghost use Rattle.std.specs.Prelude.{◌≡◌, ◌≢◌, ◌⊎◌, ◌≤◌, ◌<◌, ◌+◌, ◌^◌, ◌++◌, ◌∷◌, [], ℕ, List, Option, length, slice_index, IsTrue, IfOk, IfSome, OnOk, IsErr, IsErrOf, MatchOption};
 ghost use Rattle.std.specs.Int.{w64, to_be_bytes};
 ghost use Rattle.sqlite_disk.specs.Disk.{Holds};
 ghost use Rattle.dav_journal.specs.File.{Recovers};
 ghost use Rattle.dav_journal.specs.declared.error.JournalError.TheVariants.{Damaged};
 ghost use Rattle.dav_journal.specs.Journal.{HasRead, IsClean, IsReading, OnlyReads, blocks_end, blocks_len, disk_of, file_of};
-ghost use Rattle.dav_journal.specs.Pair.{HasFirst, HasReadPair, IsCleanPair, IsKeptPair, IsMixingPair, IsOwnPair, IsPassed, IsReadingPair, OnlyReadsPair, PairLeaves, PairLeavesOnly, PairRecovers, PairStandsFor, StaysPair, WereOpened, counting, generation_of, spare_of};
+ghost use Rattle.dav_journal.specs.Pair.{GoesOn, HasFirst, HasReadPair, IsCleanPair, IsKeptPair, IsMixingPair, IsOwnPair, IsPassed, Knows, IsReadingPair, OnlyReadsPair, PairLeaves, PairLeavesOnly, PairRecovers, PairStandsFor, StaysPair, WereOpened, counting, generation_of, spare_of};
 
 mod adopting;
 mod elder;
@@ -15,6 +15,7 @@ mod reading;
 #[cfg(test)]
 mod tests;
 
+use crate::error::JournalError;
 use crate::journal::{Journal, crash};
 use sqlite_disk::{Crash, Disk};
 use std::alloc::Global;
@@ -93,6 +94,22 @@ pub fn pair_stands_for_one_list()
 pub fn what_was_passed_is_not_own<D: Disk + Drop>(pair: &Pair<D>)
     ensures { IsPassed D.Disk pair.now → IsOwnPair D.Disk pair.now → ⊥ }
 {}
+
+/// Where a later opening of the same files keeps a block that an earlier one doesn't know, as the one
+/// that notes it, the earlier one keeps nothing behind that: it is refused, and only reads.
+pub fn keep_behind_another<D: Disk + Drop>(
+    earlier: &mut Pair<D>,
+    later: &Pair<D>,
+    alloc: Global,
+    content: &[u8],
+) -> Result<(), JournalError>
+    ensures { IsCleanPair D.Disk earlier.new → (contents blocks : List (List ℕ))
+        → Knows earlier.old contents → IsKeptPair D.Disk later.now blocks
+        → GoesOn D.Disk earlier.old later.now contents blocks
+        → IsErr result × OnlyReadsPair D.Disk earlier.old earlier.new }
+{
+    earlier.keep(alloc, content)
+}
 
 /// What was read of a pair is what its files stand for, if they stand for anything.
 pub fn reads_what_it_stands_for<D: Disk + Drop>(pair: &Pair<D>)

@@ -2,7 +2,8 @@
 ghost use Rattle.std.specs.Prelude.{◌≡◌, ℕ, List, slice_index, OnOk};
 ghost use Rattle.sqlite_disk.specs.Disk.{Holds};
 ghost use Rattle.dav_journal.specs.Block.{IsNoBlock};
-ghost use Rattle.dav_journal.specs.Journal.{IsClean, IsOwn, OnlyLooks, blocks_end, file_of};
+ghost use Rattle.dav_journal.specs.Journal.{IsClean, IsOwn, OnlyLooks, Stays, blocks_end, file_of};
+ghost use Rattle.dav_journal.specs.Mark.{NoneMarkedPast};
 
 use crate::block::{HEAD, OPEN, START};
 use crate::error::JournalError;
@@ -35,8 +36,8 @@ impl<D: Disk + Drop> Journal<D> {
         Ok(())
     }
 
-    // Sees that the first block is there, and begins with these bytes.
-    fn see_begin(&mut self, begins: [u8; 8]) -> Result<(), JournalError>
+    /// Sees that the first block is there, and begins with these bytes: `Passed` where it isn't so.
+    pub fn see_begin(&mut self, begins: [u8; 8]) -> Result<(), JournalError>
         ensures looks { OnlyLooks D.Disk self.old self.new }
         ensures first { OnOk result (IsClean D.Disk self.new
             → (slice_index (file_of D.Disk self.old) 72 ≡ 1)
@@ -53,6 +54,18 @@ impl<D: Disk + Drop> Journal<D> {
             return Err(JournalError::Passed);
         }
         Ok(())
+    }
+
+    /// Sees that no block was kept behind those that were read, since then: `Passed` where one was.
+    pub fn see_same_end(&mut self) -> Result<(), JournalError>
+        ensures stays { Stays D.Disk self.old self.new }
+        ensures unmarked { OnOk result (IsClean D.Disk self.new
+            → NoneMarkedPast (file_of D.Disk self.old) (blocks_end self.old)) }
+    {
+        match self.see_end() {
+            Err(JournalError::Damaged(_)) => Err(JournalError::Passed),
+            seen => seen,
+        }
     }
 
     /// Whether a block of so many bytes fits into the file as it is.

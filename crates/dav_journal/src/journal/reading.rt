@@ -116,7 +116,7 @@ impl<D: Disk + Drop> Journal<D> {
     }
 
     // Whether the blocks may end here, where no other follows: `Damaged` where one did.
-    fn see_end(&mut self) -> Result<(), JournalError>
+    pub(super) fn see_end(&mut self) -> Result<(), JournalError>
         ensures stays { Stays D.Disk self.old self.new }
         ensures more { OnOk result (blocks_end self.old < blocks_len self.old) }
         ensures unmarked { OnOk result (IsClean D.Disk self.new

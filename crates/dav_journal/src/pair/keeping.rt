@@ -5,7 +5,7 @@ ghost use Rattle.sqlite_disk.specs.Disk.{Holds};
 ghost use Rattle.dav_journal.specs.File.{Recovers};
 ghost use Rattle.dav_journal.specs.declared.error.JournalError.TheVariants.{Damaged};
 ghost use Rattle.dav_journal.specs.Journal.{HasRead, IsClean, IsReading, IsSynced, OnlyReads, blocks_end, blocks_len, disk_of, file_of};
-ghost use Rattle.dav_journal.specs.Pair.{HasFirst, HasReadPair, IsCleanPair, IsKeptPair, IsMixingPair, IsOwnPair, IsReadingPair, OnlyLooksPair, OnlyReadsPair, PairLeaves, PairLeavesOnly, PairRecovers, PairStandsFor, StaysPair, WereOpened, counting, generation_of, spare_of};
+ghost use Rattle.dav_journal.specs.Pair.{HasFirst, HasReadPair, IsAsRead, IsCleanPair, IsKeptPair, IsMixingPair, IsOwnPair, IsReadingPair, OnlyLooksPair, OnlyReadsPair, PairLeaves, PairLeavesOnly, PairRecovers, PairStandsFor, StaysPair, WereOpened, counting, generation_of, spare_of};
 
 use crate::block::START;
 use crate::error::JournalError;
@@ -18,8 +18,39 @@ const GENERATION: usize = 8;
 
 impl<D: Disk + Drop> Pair<D> {
     /// Makes the end of the blocks that were read the end of the file that counts, and drops all
-    /// blocks of the other one.
+    /// blocks of the other one. `Passed` where another opening went on with the files since they were
+    /// read, which are only read then.
     pub fn cut(&mut self) -> Result<(), JournalError>
+        ensures clean { IsCleanPair D.Disk self.new → IsCleanPair D.Disk self.old }
+        ensures kept { OnOk result (IsCleanPair D.Disk self.new → (contents : List (List ℕ))
+            → HasReadPair D.Disk self.old contents → IsKeptPair D.Disk self.new contents) }
+        ensures any_moment { IsCleanPair D.Disk self.new → (contents : List (List ℕ))
+            → HasReadPair D.Disk self.old contents → PairLeavesOnly D.Disk self.old contents
+            → PairLeavesOnly D.Disk self.new contents }
+        ensures same { OnOk result (IsCleanPair D.Disk self.new → IsAsRead D.Disk self.old) }
+        ensures passed { IsCleanPair D.Disk self.new
+            → OnlyReadsPair D.Disk self.old self.new ⊎ IsAsRead D.Disk self.old }
+    {
+        self.look_again()?;
+        self.cut_rest()
+    }
+
+    // Sees that no other opening went on with the files since they were read: `Passed` where one did.
+    fn look_again(&mut self) -> Result<(), JournalError>
+        ensures reads { OnlyReadsPair D.Disk self.old self.new }
+        ensures read { (contents : List (List ℕ)) → HasReadPair D.Disk self.old contents
+            → HasReadPair D.Disk self.new contents }
+        ensures same { OnOk result (IsCleanPair D.Disk self.new → IsAsRead D.Disk self.old) }
+    {
+        self.counts.see_same_end()?;
+        if self.counts.len() == START {
+            return self.spare.see_same_end();
+        }
+        self.counts.see_begin(self.generation.to_be_bytes())
+    }
+
+    // Drops what follows the blocks that were read, and all blocks of the other file.
+    fn cut_rest(&mut self) -> Result<(), JournalError>
         ensures clean { IsCleanPair D.Disk self.new → IsCleanPair D.Disk self.old }
         ensures kept { OnOk result (IsCleanPair D.Disk self.new → (contents : List (List ℕ))
             → HasReadPair D.Disk self.old contents → IsKeptPair D.Disk self.new contents) }

@@ -86,6 +86,54 @@ fn what_was_passed_keeps_nothing(rt: HostRuntime) -> Result<(), Fail> {
     Ok(())
 }
 
+// An opening takes so many steps; a later one reads the files; the earlier one goes on up to another
+// count; then the later one makes ready: what it is answered, and whether the files are as the earlier
+// one left them.
+fn make_ready(
+    alloc: Global,
+    steps: usize,
+    more: usize,
+) -> Result<(Result<(), JournalError>, bool), JournalError> {
+    let mut earlier = new_pair(alloc);
+    read(alloc, &mut earlier)?;
+    live(alloc, &mut earlier, 0, steps);
+    let mut later = new_pair(alloc);
+    hand(&mut earlier, &mut later);
+    read(alloc, &mut later)?;
+    hand(&mut later, &mut earlier);
+    for taken in steps..more {
+        step(alloc, &mut earlier, taken)?;
+    }
+    let was = (
+        file_of(alloc, &mut earlier.counts)?,
+        file_of(alloc, &mut earlier.spare)?,
+    );
+    hand(&mut earlier, &mut later);
+    let answer = later.cut();
+    hand(&mut later, &mut earlier);
+    let is = (
+        file_of(alloc, &mut earlier.counts)?,
+        file_of(alloc, &mut earlier.spare)?,
+    );
+    Ok((answer, is == was))
+}
+
+/// What the earlier opening kept while the later one read the files isn't cut off: that one is refused.
+#[test]
+fn what_came_since_is_not_cut_off(rt: HostRuntime) -> Result<(), Fail> {
+    let alloc = rt.alloc();
+    for steps in 0..5usize {
+        for more in steps.saturating_add(1)..6 {
+            let (answer, is_same) = make_ready(alloc, steps, more)?;
+            assert!(rt;
+                is_same && (answer == Err(JournalError::Passed) || answer == Err(JournalError::Io)),
+                "{steps} steps, {more} steps: {answer:?}, {is_same}"
+            );
+        }
+    }
+    Ok(())
+}
+
 /// One that nobody passed goes on, also after the other file counted.
 #[test]
 fn what_was_not_passed_goes_on(rt: HostRuntime) -> Result<(), Fail> {

@@ -1,7 +1,7 @@
-use Rattle.std.proofs.Common.{List, ℕ, inl, inr}
+use Rattle.std.proofs.Common.{inl, inr}
 use Rattle.std.proofs.lemmas.Result.{on_ok_weaker}
 use Rattle.dav_journal.proofs.PairLemmas.{counts_left, pair_alone, pair_counts, pair_read, spare_left, spare_opened}
-use Rattle.dav_journal.proofs.pair.Pair.cut.Goals as goal
+use Rattle.dav_journal.proofs.pair.Pair.cut_rest.Goals as goal
 
 pub returns-clause-kept : goal.returns-clause-kept
 returns-clause-kept g c = on_ok_weaker c.clear.result (λ cleared clean contents read. record {
