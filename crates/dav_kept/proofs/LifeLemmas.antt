@@ -1,8 +1,8 @@
 -- The life of a server.
-use Rattle.std.proofs.Common.{◌≡◌, ℕ, ◌+◌, max, Option, Some, None, List, [], ◌∷◌, ◌++◌, refl, sym, ap, ◌∙◌, subst, append_assoc, append-nil}
+use Rattle.std.proofs.Common.{◌≡◌, ℕ, ◌+◌, max, Bool, true, false, Option, Some, None, List, [], ◌∷◌, ◌++◌, refl, sym, ap, ◌∙◌, subst, append_assoc, append-nil}
 use Rattle.std.specs.List.{concat}
 use Rattle.http_server.specs.declared.response.Response.{Response}
-use Rattle.dav_kept.specs.Kept.{Begins, RecordsFollow, Holding, IsRunOf, Leads, LoadsWhatWasSaved, PlaysRecords, RecordsRun, Snapshot, after, answer_step, committed, first_day, snapshot_of, with_batch}
+use Rattle.dav_kept.specs.Kept.{Begins, RecordsFollow, Holding, IsRunOf, Leads, LoadsWhatWasSaved, PlaysRecords, RecordsRun, Snapshot, after, answer_step, committed, first_day, snapshot_of, with_batch, with_opening}
 use Rattle.dav_kept.specs.Life.{IsBeginning, IsDetermined, IsRunSince, LeftCanBeLeftOut, Lives, LivesAreRuns, LoadsOne, RunsAreOne, recorded_in, record_of, with_change}
 use Rattle.dav_kept.specs.Records.{RecordView, RequestView, records_bytes, latest_moment, record_bytes, count_tokens}
 use Rattle.dav_kept.specs.declared.handler.Effect.{Effect}
@@ -13,6 +13,11 @@ use Rattle.dav_kept.proofs.KeptLemmas.{concat_more, leads_append, leads_none, on
 pub batch_joins : (blocks : List (List ℕ)) (batch : List ℕ) → concat (with_batch blocks batch) ++ [] ≡ concat blocks ++ batch
 batch_joins blocks [] = refl
 batch_joins blocks (b ∷ batch) = append-nil (concat (blocks ++ (b ∷ batch) ∷ [])) ∙ concat_more blocks (b ∷ batch)
+
+-- the block of an opening has no record
+pub opening_joins : (is_noted : Bool) (blocks : List (List ℕ)) → concat (with_opening is_noted blocks) ≡ concat blocks
+opening_joins true blocks = concat_more blocks [] ∙ append-nil (concat blocks)
+opening_joins false blocks = refl
 
 -- records are played alike over what is held with another batch
 pub plays_from : {S : Type 0} (step : S → RecordView → S → Type 0) (bytes : List ℕ) (a b c : Holding S) → b.state ≡ a.state → b.tokens ≡ a.tokens → b.latest ≡ a.latest → PlaysRecords step bytes a c → PlaysRecords step bytes b c
@@ -58,6 +63,13 @@ module _ {S : Type 0} (answers : S → RequestView → Response → S → Type 0
       (subst (λ (t : List ℕ). PlaysRecords (answer_step answers) t x.begin (committed old)) (sym (batch_joins blocks old.batch))
       (record { tokens = x.plays.tokens; latest = x.plays.latest; leads = x.plays.leads; counted = x.plays.counted; last = x.plays.last }))
 
+  -- the same bytes in other blocks
+  abbrev pub in_blocks : (start : Option Snapshot) (blocks others : List (List ℕ)) (now : Holding S) → concat others ≡ concat blocks → IsRunSince (answer_step answers) saved is_saveable first start blocks now
+      → IsRunSince (answer_step answers) saved is_saveable first start others now
+  in_blocks start blocks others now same x =
+      since start others now x.bytes x.begin x.before x.beginning
+      (subst (λ (t : List ℕ). PlaysRecords (answer_step answers) (t ++ now.batch) x.begin now) (sym same) x.plays)
+
   abbrev pub after_snapshot : (start : Option Snapshot) (blocks : List (List ℕ)) (old : Holding S) → old.batch ≡ [] → is_saveable old.state → IsRunSince (answer_step answers) saved is_saveable first start blocks old
       → IsRunSince (answer_step answers) saved is_saveable first (Some (snapshot_of saved old)) [] old
   after_snapshot start blocks old none can x =
@@ -89,6 +101,7 @@ module _ {S : Type 0} (answers : S → RequestView → Response → S → Type 0
   lives_since back start blocks new (Lives.answered {old = old} x f) = after_answers answers saved is_saveable first start blocks old new (lives_since back start blocks old x) f
   lives_since back _ _ _ (Lives.commits {start} {blocks} {old} x) = after_commit answers saved is_saveable first start blocks old (lives_since back start blocks old x)
   lives_since back _ _ _ (Lives.saves {start} {blocks} {old} x none can) = after_snapshot answers saved is_saveable first start blocks old none can (lives_since back start blocks old x)
+  lives_since back _ _ _ (Lives.opens {start} {blocks} {old} x) = in_blocks answers saved is_saveable first start blocks (with_opening true blocks) old (opening_joins true blocks) (lives_since back start blocks old x)
   lives_since back _ _ _ (Lives.starts {start} {blocks} {old} {new} x none run) = after_start back start blocks blocks old new (lives_since back start blocks old x) run
   lives_since back _ _ _ (Lives.starts_after_a_commit {start} {blocks} {old} {new} x none run) =
       after_start back start (with_batch blocks old.batch) (with_batch blocks old.batch) (committed old) new (after_commit answers saved is_saveable first start blocks old (lives_since back start blocks old x)) run

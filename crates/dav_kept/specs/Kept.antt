@@ -134,6 +134,11 @@ abbrev pub with_batch : List (List ℕ) → List ℕ → List (List ℕ)
 with_batch blocks [] = blocks
 with_batch blocks (b ∷ batch) = blocks ++ (b ∷ batch) ∷ []
 
+-- the blocks after an opening: one more, which has no record, where there was room for it
+abbrev pub with_opening : Bool → List (List ℕ) → List (List ℕ)
+with_opening true blocks = blocks ++ [] ∷ []
+with_opening false blocks = blocks
+
 -- all blocks of a journal: none where it is new, or else the first one before these
 abbrev pub with_first : Bool → List ℕ → List (List ℕ) → List (List ℕ)
 with_first true first blocks = []

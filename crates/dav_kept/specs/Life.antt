@@ -1,8 +1,8 @@
 -- The life of a server, from its first day on and over each restart.
-use Rattle.std.specs.Prelude.{◌≡◌, ℕ, Option, Some, None, List, [], ◌∷◌, ◌++◌, map}
+use Rattle.std.specs.Prelude.{◌≡◌, ℕ, true, Option, Some, None, List, [], ◌∷◌, ◌++◌, map}
 use Rattle.std.specs.List.{concat}
 use Rattle.http_server.specs.declared.response.Response.{Response}
-use Rattle.dav_kept.specs.Kept.{IsAnswerOf, RecordsFollow, Holding, IsRunOf, Leads, PlaysRecords, RecordsRun, Snapshot, committed, answer_step, first_day, snapshot_of, with_batch}
+use Rattle.dav_kept.specs.Kept.{IsAnswerOf, RecordsFollow, Holding, IsRunOf, Leads, PlaysRecords, RecordsRun, Snapshot, committed, answer_step, first_day, snapshot_of, with_batch, with_opening}
 use Rattle.dav_kept.specs.Records.{RecordView, RequestView, records_bytes}
 use Rattle.dav_kept.specs.declared.handler.Effect.{Effect}
 use Rattle.dav_kept.specs.declared.handler.Effect.TheVariants as effect
@@ -11,7 +11,7 @@ use Rattle.dav_kept.specs.declared.handler.Effect.TheVariants as effect
 -- server holds. On its first day there are none. Then it answers; it commits; with an empty batch
 -- and a state that can be saved it makes a snapshot, with which the journal begins anew; or it ends,
 -- and starts again over what is left: what was there, or what there was to be after a commit or a
--- snapshot that it didn't end.
+-- snapshot that it didn't end. Each opening may be noted by a block without a record.
 pub data Lives {S : Type 0} (answers : S → RequestView → Response → S → Type 0)
     (saved : S → List ℕ) (is_saveable : S → Type 0) (loads : S → List ℕ → S → Type 0) (first : S)
     : Option Snapshot → List (List ℕ) → Holding S → Type 0 where
@@ -27,6 +27,9 @@ pub data Lives {S : Type 0} (answers : S → RequestView → Response → S → 
       → Lives answers saved is_saveable loads first start blocks old → old.batch ≡ []
       → is_saveable old.state
       → Lives answers saved is_saveable loads first (Some (snapshot_of saved old)) [] old
+  opens : {start : Option Snapshot} {blocks : List (List ℕ)} {old : Holding S}
+      → Lives answers saved is_saveable loads first start blocks old
+      → Lives answers saved is_saveable loads first start (with_opening true blocks) old
   starts : {start : Option Snapshot} {blocks : List (List ℕ)} {old new : Holding S}
       → Lives answers saved is_saveable loads first start blocks old → new.batch ≡ []
       → IsRunOf (answer_step answers) loads first start blocks new

@@ -4,7 +4,7 @@ ghost use Rattle.std.specs.List.{concat};
 ghost use Rattle.http_server.specs.declared.response.Response.{Response};
 ghost use Rattle.http_server.specs.Response.{IsBlank};
 ghost use Rattle.dav_kept.specs.Records.{IsRecord, record_bytes, token_count};
-ghost use Rattle.dav_kept.specs.Kept.{Begins, IsAnswerOf, IsBeat, RecordsFollow, IsRunOf, PlaysRecords, Snapshot, StaysAsKept, StaysInJournal, after, committed, first_block, first_day, held_by, is_new, journal_of, preface_of, snapshot_bytes, snapshot_of, answer_step, base_of, with_batch, with_count, with_first, with_snapshot};
+ghost use Rattle.dav_kept.specs.Kept.{Begins, IsAnswerOf, IsBeat, RecordsFollow, IsRunOf, PlaysRecords, Snapshot, StaysAsKept, StaysInJournal, after, committed, first_block, first_day, held_by, is_new, journal_of, preface_of, snapshot_bytes, snapshot_of, answer_step, base_of, with_batch, with_count, with_first, with_opening, with_snapshot};
 ghost use Rattle.dav_kept.specs.declared.handler.Effect.TheVariants.{Changed};
 
 mod saving;
@@ -141,9 +141,10 @@ impl<H: Handles + Drop, J: Keeps + Drop> Kept<H, J> {
         self.journal.read(at, piece)
     }
 
-    /// Makes the journal ready for requests: drops what isn't whole. The first block of a new one
-    /// has the preface alone.
-    pub fn begin(&mut self) -> Result<(), KeptError>
+    /// Makes the journal ready for requests: drops what isn't whole, and notes this opening by a block,
+    /// behind which no earlier opening keeps one. That of a new journal is the first, which has the
+    /// preface alone; of another it has no record. False where the disk has no room for it.
+    pub fn begin(&mut self) -> Result<bool, KeptError>
         ensures held { held_by self.new ≡ held_by self.old }
         ensures clean { J.is_clean (journal_of self.new) → J.is_clean (journal_of self.old) }
         ensures preface { preface_of self.new ≡ preface_of self.old }
@@ -151,9 +152,10 @@ impl<H: Handles + Drop, J: Keeps + Drop> Kept<H, J> {
         ensures first { is_new self.old ≡ true → OnOk result (J.is_clean (journal_of self.new)
             → J.has_read (journal_of self.old) []
             → J.kept (journal_of self.new) (first_block (preface_of self.old) None ∷ [])) }
-        ensures again { is_new self.old ≡ false → OnOk result (J.is_clean (journal_of self.new)
-            → (blocks : List (List ℕ)) → J.has_read (journal_of self.old) blocks
-            → J.kept (journal_of self.new) blocks) }
+        ensures again { is_new self.old ≡ false → IfOk result (λ is_noted.
+            J.is_clean (journal_of self.new) → (blocks : List (List ℕ))
+            → J.has_read (journal_of self.old) blocks
+            → J.kept (journal_of self.new) (with_opening is_noted blocks)) }
     {
         let first = plain_block(self.alloc, &self.preface)?;
         self.journal.begin()?;
@@ -161,8 +163,25 @@ impl<H: Handles + Drop, J: Keeps + Drop> Kept<H, J> {
             self.journal.keep(self.alloc, &first)?;
             self.is_new = false;
             self.base = self.journal.place();
+            return Ok(true);
         }
-        Ok(())
+        self.note_opening()
+    }
+
+    // Keeps a block without a record. False where the disk has no room for it.
+    fn note_opening(&mut self) -> Result<bool, KeptError>
+        ensures held { held_by self.new ≡ held_by self.old }
+        ensures stays { StaysAsKept self.old self.new }
+        ensures clean { J.is_clean (journal_of self.new) → J.is_clean (journal_of self.old) }
+        ensures kept { IfOk result (λ is_noted. (blocks : List (List ℕ))
+            → J.kept (journal_of self.old) blocks
+            → J.kept (journal_of self.new) (with_opening is_noted blocks)) }
+    {
+        if !self.journal.room(0)? {
+            return Ok(false);
+        }
+        self.journal.keep(self.alloc, b"")?;
+        Ok(true)
     }
 
     /// Answers a request. The record of one that changed the state is in the batch. `None` where

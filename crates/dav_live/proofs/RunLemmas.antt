@@ -4,14 +4,14 @@ use Rattle.std.specs.List.{concat}
 use Rattle.std.proofs.lemmas.Grind.{flat_map-append}
 use Rattle.std.proofs.lemmas.List.Elements.{All-append, All-cons, All-nil}
 use Rattle.http_server.specs.declared.response.Response.{Response}
-use Rattle.dav_kept.specs.Kept.{Holding, IsAnswerOf, IsRunOf, Leads, LoadsWhatWasSaved, RecordsFollow, RecordsRun, Snapshot, StaysInJournal, answer_step, committed, first_block, held_by, is_new, journal_of, preface_of, snapshot_of, with_batch, with_first, with_snapshot}
+use Rattle.dav_kept.specs.Kept.{Holding, IsAnswerOf, IsRunOf, Leads, LoadsWhatWasSaved, RecordsFollow, RecordsRun, Snapshot, StaysInJournal, answer_step, committed, first_block, held_by, is_new, journal_of, preface_of, snapshot_of, with_batch, with_first, with_opening, with_snapshot}
 use Rattle.dav_kept.specs.Life.{IsDetermined, IsRunSince}
 use Rattle.dav_kept.specs.Records.{IsRecord, RecordView, RequestView, count_tokens, latest_moment, record_bytes, records_bytes, token_count}
 use Rattle.dav_kept.specs.declared.handler.Effect.{Effect}
 use Rattle.dav_kept.specs.declared.handler.Effect.TheVariants.{Changed, Left}
 use Rattle.dav_kept.specs.declared.kept.Kept.{Kept}
 use Rattle.dav_kept.proofs.KeptLemmas.{first_records, leads_append, same_records}
-use Rattle.dav_kept.proofs.LifeLemmas.{after_answers, after_commit, after_snapshot, after_start, batch_joins, one_end}
+use Rattle.dav_kept.proofs.LifeLemmas.{after_answers, after_commit, after_snapshot, after_start, batch_joins, in_blocks, one_end, opening_joins}
 use Rattle.dav_live.specs.Numbered.{AreNumbered, HasNumber}
 use Rattle.dav_live.specs.Runs.{Commits, GoesOn, IsLeft, IsOneRun, IsOpened, RunGoesOn, Saves, StartsWith, StaysKept, as_before, begun_anew, with_the_batch}
 
@@ -203,6 +203,16 @@ module _ {H J : Type 0} (answers : H → RequestView → Response → H → Type
         same_records (answer_step answers) _ _ _ _ _ y.all x.all.records x.all.are (ap (λ (t : List ℕ). x.bytes ++ t) (batch_joins blocks old.batch) ∙ x.all.spelled),
       )
 
+  -- the run over other blocks of the same bytes
+  regrouped : (first : H) (start : Option Snapshot) (blocks others : List (List ℕ)) (now : Holding H) → concat others ≡ concat blocks
+      → (x : IsRunSince (answer_step answers) saved is_saveable first start blocks now)
+      → (y : IsRunSince (answer_step answers) saved is_saveable first start others now) × (y.all.records ≡ x.all.records)
+  regrouped first start blocks others now same x =
+      let y = in_blocks answers saved is_saveable first start blocks others now same x in (
+        y,
+        same_records (answer_step answers) _ _ _ _ _ y.all x.all.records x.all.are (ap (λ (t : List ℕ). x.bytes ++ (t ++ now.batch)) same ∙ x.all.spelled),
+      )
+
   saved_run : (first : H) (start : Option Snapshot) (blocks : List (List ℕ)) (old : Holding H) → is_saveable old.state
       → (x : IsRunSince (answer_step answers) saved is_saveable first start blocks old)
       → (y : IsRunSince (answer_step answers) saved is_saveable first (Some (snapshot_of saved (committed old))) [] (committed old)) × (y.all.records ≡ x.all.records)
@@ -289,28 +299,42 @@ module _ {H J : Type 0} (answers : H → RequestView → Response → H → Type
 -- ---- a server that begins
 
 module _ {H J : Type 0} (answers : H → RequestView → Response → H → Type 0) (saved : H → List ℕ) (is_saveable : H → Type 0) (loads : H → List ℕ → H → Type 0)
-    (kept has_read : J → List (List ℕ) → Type 0) (C : Type 0) (old new : Kept H J) where
+    (kept has_read : J → List (List ℕ) → Type 0) (C : Type 0) (old new : Kept H J) (is_noted : Bool) where
+  -- the block of an opening comes after the first and the others
+  noted_behind : (first : List ℕ) (blocks : List (List ℕ)) (b : Bool) → with_opening b (first ∷ blocks) ≡ first ∷ with_opening b blocks
+  noted_behind first blocks true = refl
+  noted_behind first blocks false = refl
+
   kept_at : (start : Option Snapshot) (blocks : List (List ℕ)) (b : Bool) → is_new old ≡ b → has_read (journal_of old) (with_first b (first_block (preface_of old) start) blocks)
       → (b ≡ true → (blocks ≡ []) × (start ≡ None))
       → (is_new old ≡ true → C → has_read (journal_of old) [] → kept (journal_of new) (first_block (preface_of old) None ∷ []))
-      → (is_new old ≡ false → C → (bs : List (List ℕ)) → has_read (journal_of old) bs → kept (journal_of new) bs)
-      → C → kept (journal_of new) (first_block (preface_of old) start ∷ blocks)
+      → (is_new old ≡ false → C → (bs : List (List ℕ)) → has_read (journal_of old) bs → kept (journal_of new) (with_opening is_noted bs))
+      → C → (now : List (List ℕ)) × (concat now ≡ concat blocks) × kept (journal_of new) (first_block (preface_of old) start ∷ now)
   kept_at start blocks true e read empty fresh again clean =
-      let none = empty refl in
-      subst (λ (bs : List (List ℕ)). kept (journal_of new) (first_block (preface_of old) start ∷ bs)) (sym none.0)
-      (subst (λ (s : Option Snapshot). kept (journal_of new) (first_block (preface_of old) s ∷ [])) (sym none.1) (fresh e clean read))
-  kept_at start blocks false e read empty fresh again clean = again e clean (first_block (preface_of old) start ∷ blocks) read
+      let none = empty refl in (
+        blocks,
+        refl,
+        subst (λ (bs : List (List ℕ)). kept (journal_of new) (first_block (preface_of old) start ∷ bs)) (sym none.0)
+            (subst (λ (s : Option Snapshot). kept (journal_of new) (first_block (preface_of old) s ∷ [])) (sym none.1) (fresh e clean read)),
+      )
+  kept_at start blocks false e read empty fresh again clean = (
+    with_opening is_noted blocks,
+    opening_joins is_noted blocks,
+    subst (λ (bs : List (List ℕ)). kept (journal_of new) bs) (noted_behind (first_block (preface_of old) start) blocks is_noted) (again e clean (first_block (preface_of old) start ∷ blocks) read),
+  )
 
   pub begun : (first : H) (start : Option Snapshot) (blocks : List (List ℕ)) → IsOpened answers loads has_read first start blocks old
       → (since : IsRunSince (answer_step answers) saved is_saveable first start blocks (held_by old)) → AreNumbered 0 since.all.records
       → held_by new ≡ held_by old → preface_of new ≡ preface_of old
       → (is_new old ≡ true → C → has_read (journal_of old) [] → kept (journal_of new) (first_block (preface_of old) None ∷ []))
-      → (is_new old ≡ false → C → (bs : List (List ℕ)) → has_read (journal_of old) bs → kept (journal_of new) bs)
+      → (is_new old ≡ false → C → (bs : List (List ℕ)) → has_read (journal_of old) bs → kept (journal_of new) (with_opening is_noted bs))
       → C → IsOneRun answers saved is_saveable kept first since.all.records new
   begun first start blocks o since numbered held preface fresh again clean =
-      let y = moved answers saved is_saveable (λ _. C) kept first start blocks (held_by old) (held_by new) held since in
-      is_run answers saved is_saveable (λ _. C) kept first since.all.records new start blocks (y.0, y.1) numbered
-      (subst (λ (p : List ℕ). kept (journal_of new) (first_block p start ∷ blocks)) (sym preface) (kept_at start blocks (is_new old) refl o.read o.none fresh again clean))
+      let (now, same, is_kept) = kept_at start blocks (is_new old) refl o.read o.none fresh again clean in
+      let x = regrouped answers saved is_saveable (λ _. C) kept first start blocks now (held_by old) same since in
+      let y = moved answers saved is_saveable (λ _. C) kept first start now (held_by old) (held_by new) held x.0 in
+      is_run answers saved is_saveable (λ _. C) kept first since.all.records new start now (y.0, y.1 ∙ x.1) numbered
+      (subst (λ (p : List ℕ). kept (journal_of new) (first_block p start ∷ now)) (sym preface) is_kept)
 
 -- ---- a server that starts over what is left
 

@@ -133,7 +133,8 @@ impl<H: Ends + Drop, J: Keeps + Drop> Service<H, J> {
         }
     }
 
-    /// Makes the state ready for requests: drops what isn't whole. A journal that is long begins anew.
+    /// Makes the state ready for requests: drops what isn't whole, and notes this opening, where the disk has room. A journal that is long
+    /// begins anew.
     pub fn begin(&mut self) -> Result<(), OpenError>
         ensures run { (first : H) (start : Option Snapshot) (blocks : List (List ℕ))
             → IsOpened H.answers H.loads J.has_read first start blocks (kept_of self.old)
@@ -165,7 +166,7 @@ impl<H: Ends + Drop, J: Keeps + Drop> Service<H, J> {
             → J.is_clean (journal_of (kept_of self.old)) }
     {
         match self.kept.begin() {
-            Ok(()) => Ok(()),
+            Ok(_) => Ok(()),
             Err(error) => Err(error.into()),
         }
     }

@@ -7,10 +7,11 @@ use http::StatusCode;
 use std::alloc::Global;
 use std::test::Fail;
 
-// What counts the blocks that it has to keep, and has room for none, or for one more but not to
-// begin anew.
+// What begins with a first block or has none, counts the blocks that it has to keep, and has room for
+// none, or for one more but not to begin anew.
 #[derive(Drop)]
 struct Full {
+    has_first: bool,
     has_room: bool,
     blocks: usize,
 }
@@ -34,8 +35,12 @@ impl Keeps for Full {
 
     ghost leaves = { λ j one other. ⊤ };
 
-    fn next(&mut self, _alloc: Global) -> Result<Option<Vec<u8>>, KeptError> {
-        Ok(None)
+    fn next(&mut self, alloc: Global) -> Result<Option<Vec<u8>>, KeptError> {
+        if !self.has_first {
+            return Ok(None);
+        }
+        self.has_first = false;
+        Ok(Some(Vec::from_slice(alloc, b"\0\0\0\0\0\0\0\x01/")?))
     }
 
     fn place(&self) -> usize {
@@ -78,19 +83,43 @@ impl Keeps for Full {
     ghost kept_is_left = { λ j blocks others kept. (kept, kept) };
 }
 
+// A server over a journal with a first block or without one, with room or without.
+fn start(alloc: Global, has_first: bool, has_room: bool) -> Result<Kept<Heads, Full>, KeptError> {
+    let heads = Heads {
+        heads: Vec::new(alloc),
+        made: StatusCode::CREATED,
+    };
+    let full = Full {
+        has_first,
+        has_room,
+        blocks: 0,
+    };
+    Kept::open(alloc, heads, full, b"/")
+}
+
+/// An opening is noted by one block; without room it isn't, and goes on.
+#[test]
+fn an_opening_is_noted(rt: HostRuntime) -> Result<(), Fail> {
+    let alloc = rt.alloc();
+    let rows = [
+        (false, false, true, 1),
+        (false, true, true, 1),
+        (true, true, true, 1),
+        (true, false, false, 0),
+    ];
+    for (has_first, has_room, is_noted, blocks) in rows {
+        let mut kept = start(alloc, has_first, has_room)?;
+        assert_eq!(rt; kept.begin()?, is_noted);
+        assert_eq!(rt; kept.end().blocks, blocks);
+    }
+    Ok(())
+}
+
 #[test]
 fn without_room_nothing_is_done(rt: HostRuntime) -> Result<(), Fail> {
     let alloc = rt.alloc();
     for (has_room, state, blocks) in [(false, "", 1), (true, "a", 2)] {
-        let heads = Heads {
-            heads: Vec::new(alloc),
-            made: StatusCode::CREATED,
-        };
-        let full = Full {
-            has_room,
-            blocks: 0,
-        };
-        let mut kept = Kept::open(alloc, heads, full, b"/")?;
+        let mut kept = start(alloc, false, has_room)?;
         kept.begin()?;
         assert_eq!(rt; ask(alloc, &mut kept, "+a", 1)?.is_some(), has_room);
         assert!(rt; !kept.snapshot()?);
