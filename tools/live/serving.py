@@ -108,9 +108,9 @@ class Server:
             self.kept.cleanup()
 
 
-def ask(port, method, path, body=None, headers=None, timeout=60):
+def ask(port, method, path, body=None, headers=None, timeout=60, address="127.0.0.1"):
     """One request on a connection of its own: status, headers and body."""
-    link = http.client.HTTPConnection("127.0.0.1", port, timeout=timeout)
+    link = http.client.HTTPConnection(address, port, timeout=timeout)
     try:
         link.request(method, path, body, headers or {})
         reply = link.getresponse()
