@@ -69,6 +69,16 @@ module _ {D : Type 0} (g : Ghosts D) (p : Pair D) where
       IsPassed.anew (λ none. absurd (omega (arith, none, blocks_le p.counts.key knows.file (end_of 72 (length content)) contents p.counts.end (knows.blocks.1)))) knows.small generation other
       (record { small = small; block = to_be_bytes w64 generation ++ opening; is = all.0; begins = record { content = opening; begins = refl } })
 
+-- what a pair keeps
+pub kept_is_known : {D : Type 0} (g : Ghosts D) (p : Pair D) (contents : List (List ℕ)) → g.may_leave p.counts.disk (g.seen p.counts.disk) → g.may_leave p.spare.disk (g.seen p.spare.disk)
+    → IsKeptPair g p contents → Knows p contents
+kept_is_known g p contents stays same kept = record {
+  small = kept.small;
+  file = g.seen p.counts.disk;
+  blocks = (kept.kept.outcomes _ stays).blocks;
+  spare = sym ((kept.spare.outcomes _ same).blocks);
+}
+
 pub goes_on_passes : {D : Type 0} (g : Ghosts D) (earlier later : Pair D) (contents blocks : List (List ℕ)) → g.may_leave later.counts.disk (g.seen later.counts.disk)
     → Knows earlier contents → IsKeptPair g later blocks → GoesOn g earlier later contents blocks → IsPassed g earlier
 goes_on_passes g earlier later contents _ stays knows kept (GoesOn.with_more opening more one same) =

@@ -95,6 +95,12 @@ pub fn what_was_passed_is_not_own<D: Disk + Drop>(pair: &Pair<D>)
     ensures { IsPassed D.Disk pair.now → IsOwnPair D.Disk pair.now → ⊥ }
 {}
 
+/// What a pair keeps it knows, whatever another opening does to the files.
+pub fn what_is_kept_is_known<D: Disk + Drop>(pair: &Pair<D>)
+    ensures { (contents : List (List ℕ)) → IsKeptPair D.Disk pair.now contents
+        → Knows pair.now contents }
+{}
+
 /// Where a later opening of the same files keeps a block that an earlier one doesn't know, as the one
 /// that notes it, the earlier one keeps nothing behind that: it is refused, and only reads.
 pub fn keep_behind_another<D: Disk + Drop>(
