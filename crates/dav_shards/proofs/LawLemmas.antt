@@ -17,7 +17,7 @@ use Rattle.dav_server.specs.Headers.{headers_of}
 use Rattle.dav_server.specs.Machine.{Exchange, Settings}
 use Rattle.dav_server.specs.TagLaws.{is_safe}
 use Rattle.dav_server.proofs.TargetLemmas.{target_is_path}
-use Rattle.dav_access.proofs.RuleLemmas.{below_trans, or_grows}
+use Rattle.dav_access.proofs.RuleLemmas.{below_trans}
 use Rattle.dav_confined.specs.Asked.{AskedView, IsAsked}
 use Rattle.dav_confined.specs.ConfinedSteps.{KeepsOff, changes_below, changes_target}
 use Rattle.dav_confined.specs.Seen.{AllUnder}
@@ -29,6 +29,12 @@ use Rattle.dav_shards.specs.ShardLaws.{AnswersTellOfHere, ChangesStayHere, Chang
 use Rattle.dav_shards.proofs.PartLemmas.{parts_of}
 
 -- ---- paths
+
+or_grows : (a b c d : Bool) → (a ≡ true → c ≡ true) → (b ≡ true → d ≡ true) → (a || b) ≡ true → (c || d) ≡ true
+or_grows true b true d one two is = refl
+or_grows true b false d one two is = absurd (true≢false (sym (one refl)))
+or_grows false b true d one two is = refl
+or_grows false b false d one two is = two is
 
 any_below : (p q : Path) → is_at_or_under q p ≡ true → (folders : List PathText)
     → list_any (λ f. is_at_or_under p (names f)) folders ≡ true → list_any (λ f. is_at_or_under q (names f)) folders ≡ true

@@ -1,12 +1,13 @@
 -- Of a head one request is read, so the part of it that names what is elsewhere is one.
-use Rattle.std.proofs.Common.{◌≡◌, ◌||◌, ℕ, Bool, true, false, not, bytes_eq, if◌then◌else◌, List, [], ◌∷◌, MatchOption, codes, Option, Some, None, Result, refl, sym, ap, subst, ◌∙◌}
-use Rattle.std.specs.List.{list_all}
+use Rattle.std.proofs.Common.{◌≡◌, ◌||◌, ◌==◌, ℕ, Bool, true, false, true≢false, arith, length, not, bytes_eq, if◌then◌else◌, List, [], ◌∷◌, MatchOption, codes, Option, Some, None, Result, refl, sym, ap, subst, ◌∙◌}
+use Rattle.std.specs.List.{list_all, list_any}
+use Rattle.std.proofs.lemmas.Bool.Decides.{nat_tests}
 use Rattle.std.specs.Result.{result_ok}
 use Rattle.http_header.specs.HeaderMap.{get_all}
 use Rattle.dav_core.specs.declared.errors.DavError.{DavError}
 use Rattle.dav_core.specs.declared.method.DavMethod.{DavMethod}
 use Rattle.dav_core.specs.declared.method.DavMethod.TheVariants.{Copy, Move}
-use Rattle.dav_core.specs.Path.{Path, PathText, names, star}
+use Rattle.dav_core.specs.Path.{Path, PathText, is_at_or_under, names, star}
 use Rattle.dav_engine.specs.declared.request.Body.TheVariants as body
 use Rattle.dav_engine.specs.Conditions.{AreConditions, Conditions, paths_in}
 use Rattle.dav_engine.specs.CopyMove.{DestinationNames}
@@ -100,6 +101,20 @@ none_elsewhere : (a : AskedView) → elsewhere [] a ≡ None
 none_elsewhere a =
     none_of (has_target [] a) (has_destination [] a.method a.destination) (list_all (is_here []) a.spoken_of)
     (or_true (bytes_eq a.path.bytes star)) (goes_here a.method a.destination) (all_here a.spoken_of)
+
+-- what is at or below one of some folders is here
+pub one_is_here : (folders : List PathText) (p : Path) → (length folders == 0) ≡ false → list_any (λ f. is_at_or_under p (names f)) folders ≡ is_here folders p
+one_is_here [] p is = absurd (true≢false is)
+one_is_here (f ∷ folders) p is = refl
+
+-- without folders all is
+pub all_is_here : (folders : List PathText) (p : Path) → (length folders == 0) ≡ true → is_here folders p ≡ true
+all_is_here [] p is = refl
+all_is_here (f ∷ folders) p is = absurd (grind (arith, nat_tests))
+
+pub no_folders : (folders : List PathText) → (length folders == 0) ≡ true → folders ≡ []
+no_folders [] is = refl
+no_folders (f ∷ folders) is = absurd (grind (arith, nat_tests))
 
 -- a server that has all refuses nothing
 pub all_told : (prefix head : List ℕ) (p : Part) → ¬ IsElsewhere [] prefix head p

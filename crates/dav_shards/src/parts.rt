@@ -1,7 +1,7 @@
 //! Which part of a request names what is elsewhere, for a server that has some folders alone.
 ghost use Rattle.std.specs.Prelude.{◌≡◌, IfOk, MatchOption};
-ghost use Rattle.std.specs.List.{list_all};
-ghost use Rattle.dav_core.specs.Path.{names};
+ghost use Rattle.std.specs.List.{list_all, list_any};
+ghost use Rattle.dav_core.specs.Path.{is_at_or_under, names};
 ghost use Rattle.dav_shards.specs.declared.parts.Part.{Part as PartValue};
 ghost use Rattle.dav_shards.specs.Shards as spec;
 
@@ -22,14 +22,18 @@ pub enum Part {
     Condition,
 }
 
+// Whether a path is at one of these folders or below it.
+fn is_in_one(folders: &[DavPath], path: &DavPath) -> bool
+    ensures { result ≡ list_any (λ f. is_at_or_under (names path.now) (names f)) folders.now }
+{
+    folders.iter().any(|folder| path.is_at_or_under(folder))
+}
+
 // Whether a server that has these folders alone, or all, where none is named, has what is at a path.
 fn is_here(folders: &[DavPath], path: &DavPath) -> bool
     ensures { result ≡ spec.is_here folders.now (names path.now) }
 {
-    if folders.is_empty() {
-        return true;
-    }
-    folders.iter().any(|folder| path.is_at_or_under(folder))
+    folders.is_empty() || is_in_one(folders, path)
 }
 
 // Whether the target of a request is here.
