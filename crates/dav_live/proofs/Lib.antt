@@ -1,5 +1,6 @@
 mod MachineLemmas
 mod TokenLemmas
+mod StreamLemmas
 mod HostLemmas
 mod OneAnswer
 mod MachineRuns
