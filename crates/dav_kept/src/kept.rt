@@ -149,6 +149,7 @@ impl<H: Handles + Drop, J: Keeps + Drop> Kept<H, J> {
         ensures clean { J.is_clean (journal_of self.new) → J.is_clean (journal_of self.old) }
         ensures preface { preface_of self.new ≡ preface_of self.old }
         ensures begun { OnOk result (is_new self.new ≡ false) }
+        ensures noted { is_new self.old ≡ true → IfOk result (λ is_noted. IsTrue is_noted) }
         ensures first { is_new self.old ≡ true → OnOk result (J.is_clean (journal_of self.new)
             → J.has_read (journal_of self.old) []
             → J.kept (journal_of self.new) (first_block (preface_of self.old) None ∷ [])) }
