@@ -32,6 +32,7 @@ class Rules:
 
     def __init__(self, text):
         lines = [line.split() for line in text.splitlines() if line.strip() and not line.lstrip().startswith("#")]
+        lines = [words for words in lines if words[0] not in ("space", "files")]
         groups = {words[0]: words[2:] for words in lines if words[0].startswith("@")}
         self.grants = []
         for right, path, *whom in (words for words in lines if not words[0].startswith("@")):

@@ -20,7 +20,7 @@ pub pair_looks : {D : Type 0} (g : Ghosts D) (old new : Pair D) (contents : List
 pair_looks g old new contents l kept = record {
   small = subst (λ (n : ℕ). n < 2 ^ 64) (sym l.generation) kept.small;
   kept = subst (λ (n : ℕ). IsKept g new.counts (with_generation n contents)) (sym l.generation) (kept_looks g old.counts new.counts _ l.counts kept.kept);
-  spare = subst (λ j. IsKept g j []) (sym l.spare) kept.spare;
+  spare = kept_looks g old.spare new.spare [] l.spare kept.spare;
 }
 
 -- what a crash leaves of it

@@ -27,7 +27,8 @@ one_begin key file own generation small h has =
 
 pub passed_or_own : {D : Type 0} (g : Ghosts D) (p : Pair D) → IsPassed g p → IsOwnPair g p → ⊥
 passed_or_own g p (IsPassed.behind before more opening last known all) own =
-    own.nothing opening (next_block p.counts.key (g.seen p.counts.disk) 72 before more opening p.counts.end last known all)
+    own.0.nothing opening (next_block p.counts.key (g.seen p.counts.disk) 72 before more opening p.counts.end last known all)
 passed_or_own g p (IsPassed.anew some small generation other has) own =
-    other (one_begin p.counts.key (g.seen p.counts.disk) p.generation generation small ((own.first some).1) has)
-passed_or_own g p (IsPassed.cleared some none) own = none ((own.first some).0)
+    other (one_begin p.counts.key (g.seen p.counts.disk) p.generation generation small ((own.0.first some).1) has)
+passed_or_own g p (IsPassed.cleared some none) own = none ((own.0.first some).0)
+passed_or_own g p (IsPassed.other block is) own = own.1 block is

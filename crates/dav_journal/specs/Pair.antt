@@ -166,19 +166,23 @@ LeavesFormer g p former contents =
     (c d : List ℕ) → g.may_leave (disk_of p.counts) c → g.may_leave (disk_of p.spare) d
     → Recovers c former ⊎ PairRecovers c d contents
 
--- A pair only read the file that counts, and is as it was.
+-- A pair only read its files, and is as it was.
 pub record OnlyLooksPair {D : Type 0} (g : Ghosts D) (old new : Pair D) : Type 0 where
   pub counts : OnlyLooks g (counting old) (counting new)
-  pub spare : spare_of new ≡ spare_of old
+  pub spare : OnlyLooks g (spare_of old) (spare_of new)
   pub generation : generation_of new ≡ generation_of old
 
 -- No other opening goes on with the files of a pair: in the one that counts no block is behind those
--- that the pair knows, and the first one is of the generation that it goes on with.
+-- that the pair knows, and the first one is of the generation that it goes on with; and no block is in
+-- the other one.
 abbrev pub IsOwnPair : {D : Type 0} → Ghosts D → Pair D → Type 0
-IsOwnPair g p = IsOwn g p.counts (to_be_bytes w64 p.generation)
+IsOwnPair g p =
+    IsOwn g p.counts (to_be_bytes w64 p.generation)
+    × IsNoBlock p.spare.key (g.seen p.spare.disk) p.spare.end
 
 -- Another opening went on with the files of a pair: in the one that counts a block is behind those
--- that the pair knows; or it knows some, and the file has blocks of another generation, or none.
+-- that the pair knows; or it knows some, and the file has blocks of another generation, or none; or
+-- a block is in the other file.
 pub data IsPassed {D : Type 0} (g : Ghosts D) (p : Pair D) : Type 0 where
   behind : (before more : List (List ℕ)) (opening : List ℕ) (last : ℕ)
       → AreBlocks p.counts.key (g.seen p.counts.disk) 72 before p.counts.end
@@ -187,3 +191,5 @@ pub data IsPassed {D : Type 0} (g : Ghosts D) (p : Pair D) : Type 0 where
   anew : p.counts.end ≢ 72 → p.generation < 2 ^ 64 → (generation : ℕ) → generation ≢ p.generation
       → HasGeneration p.counts.key (g.seen p.counts.disk) generation → IsPassed g p
   cleared : p.counts.end ≢ 72 → slice_index (g.seen p.counts.disk) 72 ≢ 1 → IsPassed g p
+  other : (block : List ℕ) → IsBlock p.spare.key (g.seen p.spare.disk) p.spare.end block
+      → IsPassed g p

@@ -115,27 +115,28 @@ IsClosedTo a r = (a.read_only ≡ true) × ¬ IsSafe r.method
 abbrev pub HasSwollenBody : Request → List ℕ → Type 0
 HasSwollenBody r body = TakesTree r.method × IsSwollen body
 
--- A request isn't run, for this reason: it is for another host (RFC 9110, section 7.4); no user is shown, but this name (RFC 9110,
--- section 15.5.2); its body would be read as far more than it is; its paths have too many slashes; its target isn't below the prefix; requests may only read; or what would be run of it has
--- no leave, and may not look either (RFC 9110, section 15.5.4); or it has leave or may look, and this part of it names what is elsewhere (RFC
--- 9110, section 15.5.20; RFC 4918, sections 9.8.5, 9.9.4 and 10.4); or it begins to write past what a body may have (RFC 9110, section
--- 15.5.14). With it the user.
+-- A request isn't run, for the first of these reasons that applies: it is for another host (RFC 9110, section 7.4); no user is shown, but this
+-- name (RFC 9110, section 15.5.2); its body would be read as far more than it is (section 15.5.14); its paths have too many slashes; its target
+-- isn't below the prefix; requests may only read; what would be run of it has no leave, and may not look either (RFC 9110, section 15.5.4);
+-- this part of it names what is elsewhere (RFC 9110, section 15.5.20; RFC 4918, sections 9.8.5, 9.9.4 and 10.4); it begins to write past what
+-- a body may have (RFC 9110, section 15.5.14). With it the user.
 pub data IsTurnedAway (a : AdmissionView) (r : Request) (body : List ℕ) : Reason → List ℕ → Type 0 where
   misdirected : TellsFor a.hosts (value_of (codes "host") r) false → IsTurnedAway a r body Misdirected []
   unknown : (shown : List ℕ) → TellsFor a.hosts (value_of (codes "host") r) true
       → ShowsNoUser (users_for a r) (value_of (codes "authorization") r) shown → IsTurnedAway a r body Unauthorized shown
   swollen : (user : Option (List ℕ)) → IsLetIn a r user → HasSwollenBody r body → IsTurnedAway a r body Swollen (unwrap_or user [])
-  too_long : (user : Option (List ℕ)) → IsLetIn a r user → HasManySlashes r → IsTurnedAway a r body TooLong (unwrap_or user [])
-  outside : (user : Option (List ℕ)) → IsLetIn a r user → ¬ HasManySlashes r → IsOutside a.prefix r
+  too_long : (user : Option (List ℕ)) → IsLetIn a r user → ¬ HasSwollenBody r body → HasManySlashes r → IsTurnedAway a r body TooLong (unwrap_or user [])
+  outside : (user : Option (List ℕ)) → IsLetIn a r user → ¬ HasSwollenBody r body → ¬ HasManySlashes r → IsOutside a.prefix r
       → IsTurnedAway a r body Outside (unwrap_or user [])
-  closed : (user : Option (List ℕ)) → IsLetIn a r user → ¬ HasManySlashes r → ¬ IsOutside a.prefix r → IsClosedTo a r
-      → IsTurnedAway a r body ReadOnly (unwrap_or user [])
-  without_leave : (user : Option (List ℕ)) (head : List ℕ) → IsLetIn a r user → ¬ HasManySlashes r → ¬ IsOutside a.prefix r → ¬ IsClosedTo a r
-      → IsHeadKept a r head → ¬ HasLeaveIn a user head → ¬ LooksIn a user head → IsTurnedAway a r body (reason_for user) (unwrap_or user [])
-  elsewhere : (user : Option (List ℕ)) (head : List ℕ) (part : Part) → IsLetIn a r user → ¬ HasManySlashes r → ¬ IsOutside a.prefix r → ¬ IsClosedTo a r
-      → IsHeadKept a r head → MayAskIn a user head → IsElsewhereIn a head part → IsTurnedAway a r body (Elsewhere part) (unwrap_or user [])
-  too_far : (user : Option (List ℕ)) (head : List ℕ) → IsLetIn a r user → ¬ HasManySlashes r → ¬ IsOutside a.prefix r → ¬ IsClosedTo a r
-      → IsHeadKept a r head → HasLeaveIn a user head → IsHereIn a head → BeginsPast a.most_body r → IsTurnedAway a r body TooFar (unwrap_or user [])
+  closed : (user : Option (List ℕ)) → IsLetIn a r user → ¬ HasSwollenBody r body → ¬ HasManySlashes r → ¬ IsOutside a.prefix r
+      → IsClosedTo a r → IsTurnedAway a r body ReadOnly (unwrap_or user [])
+  without_leave : (user : Option (List ℕ)) (head : List ℕ) → IsLetIn a r user → ¬ HasSwollenBody r body → ¬ HasManySlashes r
+      → ¬ IsOutside a.prefix r → ¬ IsClosedTo a r → IsHeadKept a r head → ¬ HasLeaveIn a user head → ¬ LooksIn a user head → IsTurnedAway a r body (reason_for user) (unwrap_or user [])
+  elsewhere : (user : Option (List ℕ)) (head : List ℕ) (part : Part) → IsLetIn a r user → ¬ HasSwollenBody r body → ¬ HasManySlashes r
+      → ¬ IsOutside a.prefix r → ¬ IsClosedTo a r → IsHeadKept a r head → MayAskIn a user head → IsElsewhereIn a head part
+      → IsTurnedAway a r body (Elsewhere part) (unwrap_or user [])
+  too_far : (user : Option (List ℕ)) (head : List ℕ) → IsLetIn a r user → ¬ HasSwollenBody r body → ¬ HasManySlashes r
+      → ¬ IsOutside a.prefix r → ¬ IsClosedTo a r → IsHeadKept a r head → HasLeaveIn a user head → IsHereIn a head → BeginsPast a.most_body r → IsTurnedAway a r body TooFar (unwrap_or user [])
 
 -- The token for a lock that a request may create: a LOCK with a body gets that of the next number, and no other request gets one (RFC
 -- 4918, sections 6.5 and 9.10.2).

@@ -1,8 +1,9 @@
 //! A live server, behind one stream of reports and one of orders.
-ghost use Rattle.std.specs.Prelude.{◌≡◌, [], IfOk};
+ghost use Rattle.std.specs.Prelude.{◌≡◌, ◌++◌, ℕ, List, [], Err, IfOk, OnOk};
+ghost use Rattle.std.specs.Io.KnownBytes.{Consumes, IsAtEnd};
 ghost use Rattle.dav_journal.specs.Pair.{IsCleanPair, IsReadingPair};
 ghost use Rattle.dav_turns.specs.Frames.{BeginsWith, ReportView};
-ghost use Rattle.dav_live.specs.LiveRun.{service_of};
+ghost use Rattle.dav_live.specs.LiveRun.{HasNoReport, service_of};
 
 use crate::fault::{Fault, OpenError};
 use crate::lists::Lists;
@@ -12,12 +13,12 @@ use crate::settings::Settings;
 use dav_http::Handler;
 use dav_journal::Pair;
 use dav_kept::adopt;
-use dav_turns::{Turns, TurnsConfig, has_report};
+use dav_turns::{Pipe, ReadError, Turns, TurnsConfig};
 use dav_wire::Config;
 use http1::Limits;
 use sqlite_disk::Disk;
-use std::alloc::{AllocError, Global};
-use std::io::{ErrorKind, Read, Write};
+use std::alloc::Global;
+use std::io::{Read, Write};
 
 /// The most bytes of a body that is an element tree.
 const MOST_XML: usize = 1_048_576;
@@ -42,18 +43,10 @@ pub struct Live<D: Disk + Drop> {
     service: Service<Machine, Pair<D>>,
 }
 
-// What was read last, the reports that weren't taken yet, and room for orders.
-#[derive(Drop)]
-struct Pipe {
-    piece: Vec<u8>,
-    input: Vec<u8>,
-    orders: Vec<u8>,
-}
-
 impl<D: Disk + Drop> Live<D> {
-    ghost use Rattle.std.specs.Prelude.{◌≡◌, ◌≢◌, ◌⊎◌, ◌<◌, ℕ, List, Err, IfOk, OnOk, Option, length, string_bytes};
+    ghost use Rattle.std.specs.Prelude.{◌≡◌, ◌≢◌, ◌⊎◌, ◌<◌, ℕ, List, [], Err, IfOk, OnOk, Option, length, string_bytes};
     ghost use Rattle.std.specs.List.{flat_map};
-    ghost use Rattle.std.specs.Io.KnownBytes.{Appends};
+    ghost use Rattle.std.specs.Io.KnownBytes.{Appends, Consumes, IsAtEnd};
     ghost use Rattle.dav_journal.specs.Journal.{blocks_end, file_of};
     ghost use Rattle.dav_journal.specs.Pair.{HasReadPair, IsCleanPair, IsKeptPair, counting};
     ghost use Rattle.sqlite_disk.specs.Disk.{Holds};
@@ -67,7 +60,7 @@ impl<D: Disk + Drop> Live<D> {
     ghost use Rattle.dav_live.specs.Answers.{IsAnswer};
     ghost use Rattle.dav_live.specs.Runs.{IsOneRun, IsOpened, RunGoesOn};
     ghost use Rattle.dav_live.specs.Numbered.{AreNumbered};
-    ghost use Rattle.dav_live.specs.LiveRun.{doing, kept_in, service_of, turns_of};
+    ghost use Rattle.dav_live.specs.LiveRun.{HasNoReport, HasServed, ServesOn, doing, kept_in, server_of, service_of, turns_of};
 
     /// A server over the two files of its journal: what it answers is as after the requests that the journal has. The files are as
     /// they were, unless they were empty, or the first was the journal of a server from before it made snapshots, which becomes the
@@ -145,28 +138,34 @@ impl<D: Disk + Drop> Live<D> {
         self.service.begin()
     }
 
-    /// Serves until the input ends, or something fails: why it ended. Where the input ended, the run of the server's records goes
-    /// on.
+    /// Serves until the input ends, or something fails: why it ended. Where the input ended, each whole report of it was heard once
+    /// and in order, in one turn after another; the orders of these turns were written, and no others; and the run of the server's
+    /// records goes on.
     pub fn run<R: Read, W: Write, L: Watch>(
         &mut self,
         reader: &mut R,
         writer: &mut W,
         watch: &mut L,
     ) -> Fault
-        ensures { result ≡ Fault.Ended → RunGoesOn IsAnswer saved_bytes IsSaveable
+        ensures run { result ≡ Fault.Ended → RunGoesOn IsAnswer saved_bytes IsSaveable
             (λ j. IsCleanPair D.Disk j) (λ j bs. IsKeptPair D.Disk j bs) (kept_in self.old)
             (kept_in self.new) }
+        ensures served { result ≡ Fault.Ended → HasServed (doing D.Disk)
+            (turns_of self.old).config (R.remaining reader.old) (R.remaining reader.new)
+            (W.contents writer.old) (W.contents writer.new) (server_of self.old)
+            (server_of self.new) }
     {
-        let Ok(mut pipe) = new_pipe(self.alloc) else {
+        let Ok(mut pipe) = Pipe::new(self.alloc) else {
             return Fault::Memory;
         };
+        let mut orders = Vec::new(self.alloc);
         for _ in 0..u64::MAX {
-            match self.serve_once(&mut pipe, reader, writer, watch) {
+            match self.serve_once(&mut pipe, &mut orders, reader, writer, watch) {
                 Ok(()) => {}
                 Err(fault) => return fault,
             }
         }
-        Fault::Ended
+        Fault::Pipe
     }
 
     /// Takes the reports that came, and writes the orders for them: nothing before all that was answered is kept. The run of the
@@ -189,6 +188,7 @@ impl<D: Disk + Drop> Live<D> {
             saved_bytes IsSaveable (λ j. IsCleanPair D.Disk j) (λ j bs. IsKeptPair D.Disk j bs)
             (kept_in self.old) (kept_in self.new) }
         ensures fault { result ≢ Err Fault.Ended }
+        ensures config { (turns_of self.new).config ≡ (turns_of self.old).config }
     {
         match self.turns.serve(&mut self.service, reports, orders, writer) {
             Ok(used) => Ok(used),
@@ -200,6 +200,7 @@ impl<D: Disk + Drop> Live<D> {
     fn serve_once<R: Read, W: Write, L: Watch>(
         &mut self,
         pipe: &mut Pipe,
+        orders: &mut Vec<u8>,
         reader: &mut R,
         writer: &mut W,
         watch: &mut L,
@@ -207,14 +208,21 @@ impl<D: Disk + Drop> Live<D> {
         ensures run { OnOk result (RunGoesOn IsAnswer saved_bytes IsSaveable
             (λ j. IsCleanPair D.Disk j) (λ j bs. IsKeptPair D.Disk j bs) (kept_in self.old)
             (kept_in self.new)) }
-        ensures ended { result ≡ Err Fault.Ended → kept_in self.new ≡ kept_in self.old }
-        ensures reads { (t : ReportView) → BeginsWith pipe.old.input.items t
-            → reader.new ≡ reader.old }
+        ensures serves { OnOk result (ServesOn (doing D.Disk)
+            (turns_of self.old).config (R.remaining reader.old) (R.remaining reader.new)
+            (W.contents writer.old) (W.contents writer.new) (server_of self.old)
+            (server_of self.new) pipe.old pipe.new) }
+        ensures config { OnOk result ((turns_of self.new).config ≡ (turns_of self.old).config) }
+        ensures still { (t : ReportView) → BeginsWith pipe.old t → reader.new ≡ reader.old }
+        ensures ended { result ≡ Err Fault.Ended → (self.new ≡ self.old) × (writer.new ≡ writer.old)
+            × IsAtEnd (R.remaining reader.new)
+            × Consumes (R.remaining reader.old) (R.remaining reader.new) []
+            × HasNoReport pipe.old }
     {
         read_more(pipe, reader)?;
         watch.begin();
-        let used = self.turn(&pipe.input, &mut pipe.orders, writer)?;
-        drop_front(&mut pipe.input, used);
+        let used = self.turn(pipe.unheard(), orders, writer)?;
+        pipe.drop_heard(used);
         self.service.tell(watch);
         Ok(())
     }
@@ -263,49 +271,20 @@ fn config_of<D: Disk + Drop>(service: &Service<Machine, Pair<D>>) -> TurnsConfig
     }
 }
 
-// Room for what is read at once, 64 KiB.
-fn new_pipe(alloc: Global) -> Result<Pipe, AllocError> {
-    let mut piece = Vec::new(alloc);
-    piece.resize(65536, 0)?;
-    Ok(Pipe {
-        piece,
-        input: Vec::new(alloc),
-        orders: Vec::new(alloc),
-    })
-}
-
 // Reads once, where no whole report is left.
 fn read_more<R: Read>(pipe: &mut Pipe, reader: &mut R) -> Result<(), Fault>
-    ensures { (t : ReportView) → BeginsWith pipe.old.input.items t → reader.new ≡ reader.old }
+    ensures read { OnOk result ((more : List ℕ)
+        × Consumes (R.remaining reader.old) (R.remaining reader.new) more
+        × (pipe.new ≡ pipe.old ++ more)) }
+    ensures still { (t : ReportView) → BeginsWith pipe.old t → reader.new ≡ reader.old }
+    ensures ended { result ≡ Err Fault.Ended → IsAtEnd (R.remaining reader.new)
+        × Consumes (R.remaining reader.old) (R.remaining reader.new) []
+        × HasNoReport pipe.old }
 {
-    if has_report(&pipe.input) {
-        return Ok(());
+    match pipe.read_more(reader) {
+        Ok(()) => Ok(()),
+        Err(ReadError::Ended) => Err(Fault::Ended),
+        Err(ReadError::Failed) => Err(Fault::Pipe),
+        Err(ReadError::Memory) => Err(Fault::Memory),
     }
-    read_once(pipe, reader)
-}
-
-// Reads once; a read that a signal interrupts gives nothing.
-fn read_once<R: Read>(pipe: &mut Pipe, reader: &mut R) -> Result<(), Fault> {
-    let count = match reader.read(&mut pipe.piece) {
-        Ok(count) => count,
-        Err(error) if error.kind() == ErrorKind::Interrupted => return Ok(()),
-        Err(_) => return Err(Fault::Pipe),
-    };
-    if count == 0 {
-        return Err(Fault::Ended);
-    }
-    let came = pipe.piece.get(..count).unwrap_or(&[]);
-    pipe.input.extend_from_slice(came)?;
-    Ok(())
-}
-
-// Drops what was used.
-fn drop_front(input: &mut Vec<u8>, used: usize) {
-    let len = input.len();
-    if used >= len {
-        input.clear();
-        return;
-    }
-    input.copy_within(used.., 0);
-    input.truncate(len - used);
 }

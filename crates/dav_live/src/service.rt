@@ -199,8 +199,7 @@ impl<H: Ends + Drop, J: Keeps + Drop> Service<H, J> {
 
     /// Tells what there is to be told.
     pub fn tell<L: Watch>(&mut self, watch: &mut L)
-        ensures same { StaysAll self.old self.new }
-        ensures logins { logins_of self.new ≡ logins_of self.old }
+        ensures { self.new ≡ self.old }
     {
         if !self.told.lines().is_empty() {
             watch.tell(self.told.lines());

@@ -2,6 +2,7 @@
 use crate::line::{Answered, line_of};
 use dav_http::Head;
 use std::alloc::{AllocError, Global};
+use std::marker::Model;
 use std::str;
 
 /// The status of a response, and the bytes of its body.
@@ -11,7 +12,7 @@ pub struct Replied {
     pub bytes: usize,
 }
 
-/// What is to be told, and where the requests come from that are answered next.
+/// What is to be told, and where the requests come from that are answered next. Clauses see nothing of it.
 #[derive(Drop)]
 pub struct Told {
     alloc: Global,
@@ -19,6 +20,14 @@ pub struct Told {
     address: String,
     lines: String,
     notices: String,
+}
+
+impl Model for Told {
+    ghost use Rattle.std.specs.Bool.{⊤};
+
+    ghost Value = { ⊤ };
+
+    ghost view = { λ _. tt };
 }
 
 impl Told {

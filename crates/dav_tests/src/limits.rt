@@ -8,7 +8,9 @@ use dav_core::errors::NoMemory;
 use dav_engine::Caller;
 use dav_http::{HandleError, Handler};
 use dav_limits::{Watches, is_past};
-use std::alloc::{AllocError, Global};
+use std::alloc::Global;
+use std::marker::Model;
+use std::mem;
 use std::test::Fail;
 
 // A session, and how many files and folders, and how many bytes, are at `/`, at `/a` and at `/a/d`, and below them, after each request
@@ -106,17 +108,71 @@ files /a 9, space /a 9; PUT /a/g HTTP/1.1^^x -> no
 space /b 0, space / 99; PUT /a/g HTTP/1.1^^x -> no
 ";
 
-// Has a server run a request, given as a head and a body.
-fn run(alloc: Global, server: &mut Handler, bytes: &[u8]) -> Result<(), HandleError> {
-    let (head, body) = parts(bytes);
-    let caller = Caller {
-        principal: None,
-        moment: 1_000_000_000,
-        token: Some("urn:uuid:1"),
-    };
-    let body = Bytes::copy_from_slice(alloc, body)?;
-    server.handle(alloc, head, body, &caller)?;
-    Ok(())
+// A server, and how much is at the paths of its limits.
+#[derive(Drop)]
+struct Watched {
+    server: Handler,
+    watches: Watches,
+}
+
+impl Model for Watched {
+    ghost use Rattle.std.specs.Bool.{⊤};
+    ghost use Rattle.dav_limits.specs.Watches.{AreExact};
+
+    ghost Value = { ⊤ };
+
+    ghost view = { λ _. tt };
+
+    ghost invariant = { λ w. AreExact w.server.server w.watches };
+}
+
+impl Watched {
+    // A new server with these limits.
+    fn new(alloc: Global, limits: &[Limit]) -> Result<Watched, Fail> {
+        let server = Handler::new(alloc, "")?;
+        let watches = Watches::of(alloc, &server, limits)?;
+        Ok(Watched { server, watches })
+    }
+
+    // Has the server run a request, given as a head and a body.
+    fn run(&mut self, alloc: Global, bytes: &[u8]) -> Result<(), HandleError> {
+        let (head, body) = parts(bytes);
+        let caller = Caller {
+            principal: None,
+            moment: 1_000_000_000,
+            token: Some("urn:uuid:1"),
+        };
+        let body = Bytes::copy_from_slice(alloc, body)?;
+        let watches = mem::replace(&mut self.watches, Watches::new(alloc));
+        let noted = watches.noted(alloc, &self.server, head)?;
+        self.server.handle(alloc, head, body, &caller)?;
+        self.watches = noted.renewed(alloc, &self.server)?;
+        Ok(())
+    }
+
+    // How many files and folders, and how many bytes, are known to be at a path and below it, and whether as many are counted anew.
+    fn amount_at(&self, alloc: Global, path: &DavPath) -> Result<(u64, u64, bool), NoMemory> {
+        let known = self.watches.amount_at(alloc, &self.server, path)?;
+        let counted = self.server.amount_at(alloc, path)?;
+        Ok((known.files, known.bytes, counted == known))
+    }
+
+    // Whether a request, given as a head and a body, would pass one of these limits: by what is known, and counted anew.
+    fn is_past(
+        &self,
+        alloc: Global,
+        limits: &[Limit],
+        bytes: &[u8],
+    ) -> Result<(bool, bool), NoMemory> {
+        let (head, body) = parts(bytes);
+        let len = body.len() as u64;
+        let none = Watches::new(alloc);
+        let known = is_past(alloc, limits, &self.watches, &self.server, head, len)?;
+        Ok((
+            known,
+            is_past(alloc, limits, &none, &self.server, head, len)?,
+        ))
+    }
 }
 
 // A limit.
@@ -143,24 +199,25 @@ fn limits(alloc: Global, text: &str) -> Result<Vec<Limit>, Fail> {
     Ok(limits)
 }
 
-// How much is at `/`, `/a` and `/a/d`, and below them.
-fn amounts(alloc: Global, watches: &Watches, server: &Handler) -> Result<String, NoMemory> {
+// How much is at `/`, `/a` and `/a/d`, and below them; and how often what is known isn't what is counted anew.
+fn amounts(alloc: Global, watched: &Watched) -> Result<(String, usize), Fail> {
     let mut text = String::new(alloc);
+    let mut wrong = 0usize;
     for place in ["/", "/a", "/a/d"] {
-        let Ok(path) = DavPath::new(alloc, place) else {
-            return Err(NoMemory);
-        };
-        let amount = watches.amount_at(alloc, server, &path)?;
+        let path = DavPath::new(alloc, place)?;
+        let (files, bytes, is_same) = watched.amount_at(alloc, &path)?;
+        if !is_same {
+            wrong = wrong.saturating_add(1);
+        }
         let comma = if text.is_empty() { "" } else { ", " };
-        let (files, bytes) = (amount.files, amount.bytes);
         text.push_str(format!(in alloc; "{comma}{files} {bytes}")?.as_str())?;
     }
-    Ok(text)
+    Ok((text, wrong))
 }
 
-// A server with `/a/f`, `/b/f` and `/b/g`.
-fn filled(alloc: Global) -> Result<Handler, Fail> {
-    let mut server = Handler::new(alloc, "")?;
+// A server with `/a/f`, `/b/f` and `/b/g`, and these limits.
+fn filled(alloc: Global, limits: &[Limit]) -> Result<Watched, Fail> {
+    let mut watched = Watched::new(alloc, limits)?;
     for bytes in [
         "MKCOL /a HTTP/1.1\r\n\r\n",
         "PUT /a/f HTTP/1.1\r\n\r\n12345",
@@ -168,28 +225,25 @@ fn filled(alloc: Global) -> Result<Handler, Fail> {
         "PUT /b/f HTTP/1.1\r\n\r\n123",
         "PUT /b/g HTTP/1.1\r\n\r\n123",
     ] {
-        run(alloc, &mut server, bytes.as_bytes())?;
+        watched.run(alloc, bytes.as_bytes())?;
     }
-    Ok(server)
+    Ok(watched)
 }
 
 #[test]
 fn amounts_are_known_through_a_session(rt: HostRuntime) -> Result<(), Fail> {
     let alloc = rt.alloc();
-    let mut server = Handler::new(alloc, "")?;
     let listed = limits(alloc, "files / 9, files /a 9, space /a/d 9")?;
-    let mut watches = Watches::of(alloc, &server, &listed)?;
+    let mut watched = Watched::new(alloc, &listed)?;
     for row in SESSION.lines() {
         let (input, wanted) = row.split_once(" -> ").ok_or("a row without an end")?;
         let bytes = unescaped(alloc, input)?;
-        let (head, _) = parts(&bytes);
-        let noted = watches.noted(alloc, &server, head)?;
-        run(alloc, &mut server, &bytes)?;
-        watches = noted.renewed(alloc, &server)?;
-        let known = amounts(alloc, &watches, &server)?;
-        assert!(rt; known.as_str() == wanted, "{row}: {known}");
-        let counted = amounts(alloc, &Watches::new(alloc), &server)?;
-        assert!(rt; counted.as_str() == wanted, "{row}: counted {counted}");
+        watched.run(alloc, &bytes)?;
+        let (found, wrong) = amounts(alloc, &watched)?;
+        assert!(rt;
+            found.as_str() == wanted && wrong == 0,
+            "{row}: {found}, {wrong} wrong"
+        );
     }
     Ok(())
 }
@@ -197,20 +251,15 @@ fn amounts_are_known_through_a_session(rt: HostRuntime) -> Result<(), Fail> {
 #[test]
 fn requests_past_limits_are_named(rt: HostRuntime) -> Result<(), Fail> {
     let alloc = rt.alloc();
-    let server = filled(alloc)?;
     for row in PAST.lines() {
         if let Some((input, wanted)) = row.split_once(" -> ") {
             let (listed, request) = input.split_once("; ").ok_or("a row without limits")?;
             let listed = limits(alloc, listed)?;
+            let watched = filled(alloc, &listed)?;
             let bytes = unescaped(alloc, request)?;
-            let (head, body) = parts(&bytes);
-            let watches = Watches::of(alloc, &server, &listed)?;
-            let len = body.len() as u64;
-            let is = is_past(alloc, &listed, &watches, &server, head, len)?;
-            assert!(rt; is == (wanted == "yes"), "{row}: {is}");
-            let none = Watches::new(alloc);
-            let again = is_past(alloc, &listed, &none, &server, head, len)?;
-            assert!(rt; again == is, "{row}: {again} without watches");
+            let (known, counted) = watched.is_past(alloc, &listed, &bytes)?;
+            let is = wanted == "yes";
+            assert!(rt; known == is && counted == is, "{row}: {known}, {counted}");
         }
     }
     Ok(())

@@ -4,4 +4,5 @@ pub mod Readings
 pub mod RestLemmas
 pub mod RoomLemmas
 pub mod SlotLemmas
+pub mod StreamLemmas
 pub mod TurnLemmas

@@ -1,5 +1,6 @@
 //! Laws of turns. Each function does nothing: its contract is a theorem on the definitions.
 ghost use Rattle.dav_turns.specs.Laws.{BodiesFit, OrdersAnswerWhatCame, ReadsOnlyAtRest, ReportsHaveOneReading, TurnsHappen};
+ghost use Rattle.dav_turns.specs.Streams.{StreamsAreTurns};
 ghost use Rattle.dav_turns.specs.Turns.{keeping};
 
 use crate::keeper::Keeper;
@@ -23,6 +24,13 @@ pub fn reads_are_at_rest<K: Keeper>()
 /// The bodies that are being read never have, all together, more bytes than they may.
 pub fn bodies_fit<K: Keeper>()
     ensures { BodiesFit
+        (keeping K.judges K.answers K.greeted K.listed K.placed K.passed K.marked K.kept) }
+{}
+
+/// In whatever pieces the reports come: turns hear each whole one once and in order, where each is
+/// given what the one before left and what came since.
+pub fn streams_are_turns<K: Keeper>()
+    ensures { StreamsAreTurns
         (keeping K.judges K.answers K.greeted K.listed K.placed K.passed K.marked K.kept) }
 {}
 

@@ -10,6 +10,7 @@ mod connection;
 mod frames;
 mod keeper;
 mod laws;
+mod pipe;
 mod table;
 #[cfg(test)]
 mod tests;
@@ -18,5 +19,9 @@ mod turns;
 pub use config::TurnsConfig;
 pub use frames::has_report;
 pub use keeper::{Keeper, TurnError};
-pub use laws::{bodies_fit, orders_answer_what_came, reads_are_at_rest, reports_have_one_reading};
+pub use laws::{
+    bodies_fit, orders_answer_what_came, reads_are_at_rest, reports_have_one_reading,
+    streams_are_turns,
+};
+pub use pipe::{Pipe, ReadError};
 pub use turns::Turns;

@@ -4,12 +4,13 @@ use crate::frames::{
     CLOSE, GONE, GOT, HELLO, Next, OPENED, READ, READ_BODY, READ_HEAD, ROOM, Report, SENT, TELL,
     TICK, USERS, has_report, next_in,
 };
-use crate::{Keeper, TurnError, Turns, TurnsConfig};
+use crate::{Keeper, Pipe, ReadError, TurnError, Turns, TurnsConfig};
 use dav_wire::{Answerer, Asked, Config, Rejection, Stop};
 use http_server::Response;
 use http1::Limits;
 use std::alloc::{AllocError, Global};
 use std::cell::Cell;
+use std::io::{self, ErrorKind, Read};
 use std::test::Fail;
 
 /// Bytes as two digits each, by docs/SERVE.md: slot, kind, length, the seconds of the steady clock, the
@@ -326,28 +327,30 @@ struct Outcome {
     failed: Option<TurnError>,
 }
 
-// Serves reports, where so many bytes more come before each turn, until no whole one is left.
-fn served(alloc: Global, reports: &[u8], step: usize) -> Result<Outcome, TurnError> {
-    let mut turns = Turns::new(alloc, CONFIG)?;
-    let mut keeper = Noting {
+// Answers requests, and was told nothing.
+fn new_keeper(alloc: Global) -> Noting {
+    Noting {
         alloc,
         notes: Vec::new(alloc),
         is_full: false,
         measured: Cell::new(0),
-    };
+    }
+}
+
+// Serves reports, turn after turn, until no whole one is left.
+fn served(alloc: Global, reports: &[u8]) -> Result<Outcome, TurnError> {
+    let mut turns = Turns::new(alloc, CONFIG)?;
+    let mut keeper = new_keeper(alloc);
     let mut orders = Vec::new(alloc);
     let mut written = Vec::new(alloc);
     let mut failed = None;
-    let (mut from, mut to) = (0usize, 0usize);
+    let mut left = reports;
     for _ in 0..reports.len().saturating_add(1) {
-        to = to.saturating_add(step).min(reports.len());
-        let came = reports.get(from..to).unwrap_or(&[]);
-        match turns.serve(&mut keeper, came, &mut orders, &mut written) {
-            Ok(used) => from = from.saturating_add(used),
+        match turns.serve(&mut keeper, left, &mut orders, &mut written) {
+            Ok(used) => left = left.get(used..).unwrap_or(&[]),
             Err(error) => failed = Some(error),
         }
-        let left = reports.get(from..to).unwrap_or(&[]);
-        if (to == reports.len() && !has_report(left)) || failed.is_some() {
+        if !has_report(left) || failed.is_some() {
             break;
         }
     }
@@ -356,6 +359,54 @@ fn served(alloc: Global, reports: &[u8], step: usize) -> Result<Outcome, TurnErr
         written,
         failed,
     })
+}
+
+// Gives at most so many bytes at once; each second read is interrupted.
+#[derive(Drop)]
+struct Pieces<'r> {
+    left: &'r [u8],
+    step: usize,
+    is_interrupted: bool,
+}
+
+impl Read for Pieces<'_> {
+    fn read(&mut self, buf: &mut [u8]) -> io::Result<usize> {
+        self.is_interrupted = !self.is_interrupted;
+        if self.is_interrupted {
+            return Err(ErrorKind::Interrupted.into());
+        }
+        let count = self.step.min(buf.len()).min(self.left.len());
+        let (came, left) = self.left.split_at(count);
+        buf[..count].copy_from_slice(came);
+        self.left = left;
+        Ok(count)
+    }
+}
+
+// What is written for reports that come in pieces of so many bytes, and how many bytes are left.
+fn piped(alloc: Global, reports: &[u8], step: usize) -> Result<(Vec<u8>, usize), Fail> {
+    let mut reader = Pieces {
+        left: reports,
+        step,
+        is_interrupted: false,
+    };
+    let mut pipe = Pipe::new(alloc)?;
+    let mut turns = Turns::new(alloc, CONFIG)?;
+    let mut keeper = new_keeper(alloc);
+    let mut orders = Vec::new(alloc);
+    let mut written = Vec::new(alloc);
+    for _ in 0..reports.len().saturating_mul(2).saturating_add(2) {
+        match pipe.read_more(&mut reader) {
+            Ok(()) => {}
+            Err(ReadError::Ended) => return Ok((written, pipe.unheard().len())),
+            Err(_) => return Err("not read".into()),
+        }
+        let Ok(used) = turns.serve(&mut keeper, pipe.unheard(), &mut orders, &mut written) else {
+            return Err("stopped".into());
+        };
+        pipe.drop_heard(used);
+    }
+    Err("endless".into())
 }
 
 // The name of an error, as rows have it.
@@ -381,7 +432,7 @@ fn turns_are_served(rt: HostRuntime) -> Result<(), Fail> {
                 add_report(&mut reports, alloc, report)?;
             }
         }
-        let found = served(alloc, &reports, usize::MAX).map_err(|_| "stopped")?;
+        let found = served(alloc, &reports).map_err(|_| "stopped")?;
         if let Some((notes, orders)) = wanted.split_once(" -> ") {
             assert!(rt; found.failed.is_none(), "{row}");
             let told = std::str::from_utf8(&found.notes).unwrap_or("?");
@@ -393,9 +444,9 @@ fn turns_are_served(rt: HostRuntime) -> Result<(), Fail> {
                 "{row}: {text}"
             );
             for step in [1, 7, 50] {
-                let found = served(alloc, &reports, step).map_err(|_| "stopped")?;
-                let is_same = found.written.as_slice() == orders.as_slice();
-                assert!(rt; is_same, "{row} in pieces of {step}");
+                let (written, left) = piped(alloc, &reports, step)?;
+                let is_same = written.as_slice() == orders.as_slice();
+                assert!(rt; is_same && left == 0, "{row} in pieces of {step}");
             }
         } else {
             let name = found.failed.map_or("", name_of);

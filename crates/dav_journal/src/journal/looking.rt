@@ -23,8 +23,8 @@ impl<D: Disk + Drop> Journal<D> {
         self.see_begin(begins)
     }
 
-    // Sees that no block is where the blocks end.
-    fn see_shut(&mut self) -> Result<(), JournalError>
+    /// Sees that no block is where the blocks end: `Passed` where one is.
+    pub fn see_shut(&mut self) -> Result<(), JournalError>
         ensures looks { OnlyLooks D.Disk self.old self.new }
         ensures nothing { OnOk result (IsClean D.Disk self.new
             → IsNoBlock self.old.key (file_of D.Disk self.old) (blocks_end self.old)) }

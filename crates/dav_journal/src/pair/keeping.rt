@@ -37,7 +37,8 @@ impl<D: Disk + Drop> Pair<D> {
         ensures looks { OnlyLooksPair D.Disk self.old self.new }
         ensures own { OnOk result (IsCleanPair D.Disk self.new → IsOwnPair D.Disk self.old) }
     {
-        self.counts.see_own(self.generation.to_be_bytes())
+        self.counts.see_own(self.generation.to_be_bytes())?;
+        self.spare.see_shut()
     }
 
     /// Makes room for a block of so many bytes. `NoRoom` where the disk has none; the pair is as it

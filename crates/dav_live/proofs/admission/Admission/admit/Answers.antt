@@ -12,7 +12,7 @@ returns-then-has_many_slashes c =
     let r = c.refused_of.ensures in
     let many : HasManySlashes c.args.head.now = search rules in
     turned_away c.args.self.now c.args.tokens c.args.head.now c.args.body.now c.refused_of.result r.0 TooLong _ r.1 r.2 r.3
-    (too_long (option_map string_bytes c.args.principal) c.requires.let_in many)
+    (too_long (option_map string_bytes c.args.principal) c.requires.let_in c.requires.lean many)
 
 pub returns-then-branch : goal.returns-then-branch
 returns-then-branch c =
@@ -21,7 +21,7 @@ returns-then-branch c =
     let prefix : c.as_str.result.now ≡ c.args.self.now.prefix = c.as_str.ensures.value ∙ ap (λ (a : AdmissionView). a.prefix) c.self.view_is in
     let is : IsOutside c.as_str.result.now c.args.head.now = search rules in
     turned_away c.args.self.now c.args.tokens c.args.head.now c.args.body.now c.refused_of-then-branch.result r.0 Outside _ r.1 r.2 r.3
-    (outside (option_map string_bytes c.args.principal) c.requires.let_in few (subst (λ p. IsOutside p c.args.head.now) prefix is))
+    (outside (option_map string_bytes c.args.principal) c.requires.let_in c.requires.lean few (subst (λ p. IsOutside p c.args.head.now) prefix is))
 
 pub returns-then-is_closed_to : goal.returns-then-is_closed_to
 returns-then-is_closed_to c =
@@ -31,7 +31,7 @@ returns-then-is_closed_to c =
     let inside : ¬ IsOutside c.as_str.result.now c.args.head.now = search rules in
     let is : IsClosedTo c.args.self.now c.args.head.now = search rules in
     turned_away c.args.self.now c.args.tokens c.args.head.now c.args.body.now c.refused_of-then-is_closed_to.result r.0 ReadOnly _ r.1 r.2 r.3
-    (closed (option_map string_bytes c.args.principal) c.requires.let_in few (subst (λ p. ¬ IsOutside p c.args.head.now) prefix inside) is)
+    (closed (option_map string_bytes c.args.principal) c.requires.let_in c.requires.lean few (subst (λ p. ¬ IsOutside p c.args.head.now) prefix inside) is)
 
 pub returns-in-Some : goal.returns-in-Some
 returns-in-Some c =
@@ -46,7 +46,7 @@ returns-in-Some c =
     let has : HasLeaveIn a (option_copied c.as_deref.result) c.deref.result.now = search rules in
     let there : IsElsewhereIn a c.in_ok-kept.kept.items c.in-Some.part = MatchOption-at_some _ _ c.in-Some.part c.in-Some.is c.in_ok-elsewhere_in.ensures in
     turned_away a c.args.tokens c.args.head.now c.args.body.now c.refused_of-in-Some.result r.0 (Elsewhere c.in-Some.part) _ r.1 r.2 r.3
-    (elsewhere who c.in_ok-kept.kept.items c.in-Some.part c.requires.let_in few (subst (λ p. ¬ IsOutside p c.args.head.now) prefix inside) free c.in_ok-kept.ensures
+    (elsewhere who c.in_ok-kept.kept.items c.in-Some.part c.requires.let_in c.requires.lean few (subst (λ p. ¬ IsOutside p c.args.head.now) prefix inside) free c.in_ok-kept.ensures
     (inl (subst (λ (u : Option (List ℕ)). HasLeaveIn a u c.in_ok-kept.kept.items) lent (subst (λ (b : List ℕ). HasLeaveIn a (option_copied c.as_deref.result) b) c.deref.ensures.value has))) there)
 
 pub returns-then-branch-2 : goal.returns-then-branch-2
@@ -63,7 +63,7 @@ returns-then-branch-2 c =
     let past : BeginsPast a.most_body c.args.head.now = search rules in
     let here : IsHereIn a c.in_ok-kept.kept.items = MatchOption-at_none _ _ c.in_default.is c.in_ok-elsewhere_in.ensures in
     turned_away a c.args.tokens c.args.head.now c.args.body.now c.refused_of-then-branch-2.result r.0 TooFar _ r.1 r.2 r.3
-    (too_far who c.in_ok-kept.kept.items c.requires.let_in few (subst (λ p. ¬ IsOutside p c.args.head.now) prefix inside) free c.in_ok-kept.ensures
+    (too_far who c.in_ok-kept.kept.items c.requires.let_in c.requires.lean few (subst (λ p. ¬ IsOutside p c.args.head.now) prefix inside) free c.in_ok-kept.ensures
     (subst (λ (u : Option (List ℕ)). HasLeaveIn a u c.in_ok-kept.kept.items) lent (subst (λ (b : List ℕ). HasLeaveIn a (option_copied c.as_deref.result) b) c.deref.ensures.value has)) here past)
 
 pub admitted-requires-clause-within : goal.admitted-requires-clause-within

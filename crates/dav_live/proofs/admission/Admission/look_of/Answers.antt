@@ -14,7 +14,7 @@ returns-then-not-branch c tokens body lean =
     let lent : option_copied c.as_deref.result ≡ who = search rules in
     let lacks : ¬ LooksIn a (option_copied c.as_deref.result) c.deref.result.now = λ looks. true≢false (sym (c.in_ok-may_look.ensures.1 looks) ∙ c.if-not-branch.true) in
     turned_away a tokens c.args.head.now body c.refused_of.result r.0 (reason_for who) _ r.1 (r.2 ∙ c.reason_for.ensures) r.3
-    (without_leave who c.args.bytes.items c.requires.let_in c.requires.few c.requires.inside c.requires.open_to c.requires.kept c.requires.lacks
+    (without_leave who c.args.bytes.items c.requires.let_in lean c.requires.few c.requires.inside c.requires.open_to c.requires.kept c.requires.lacks
     (subst (λ (u : Option (List ℕ)). ¬ LooksIn a u c.args.bytes.items) lent (subst (λ (b : List ℕ). ¬ LooksIn a (option_copied c.as_deref.result) b) c.deref.ensures.value lacks)))
 
 pub returns-in-Some : goal.returns-in-Some
@@ -26,7 +26,7 @@ returns-in-Some c tokens body lean =
     let looks : LooksIn a (option_copied c.as_deref.result) c.deref.result.now = c.in_ok-may_look.ensures.0 c.if-not-branch.false in
     let there : IsElsewhereIn a c.args.bytes.items c.in-Some.part = MatchOption-at_some _ _ c.in-Some.part c.in-Some.is c.in_ok-elsewhere_in.ensures in
     turned_away a tokens c.args.head.now body c.refused_of-in-Some.result r.0 (Elsewhere c.in-Some.part) _ r.1 r.2 r.3
-    (elsewhere who c.args.bytes.items c.in-Some.part c.requires.let_in c.requires.few c.requires.inside c.requires.open_to c.requires.kept
+    (elsewhere who c.args.bytes.items c.in-Some.part c.requires.let_in lean c.requires.few c.requires.inside c.requires.open_to c.requires.kept
     (inr (subst (λ (u : Option (List ℕ)). LooksIn a u c.args.bytes.items) lent (subst (λ (b : List ℕ). LooksIn a (option_copied c.as_deref.result) b) c.deref.ensures.value looks))) there)
 
 pub returns : goal.returns
