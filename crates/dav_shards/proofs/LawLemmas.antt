@@ -12,7 +12,6 @@ use Rattle.dav_engine.specs.Conditions.{Addressed, Conditions, SaysLists, paths_
 use Rattle.dav_engine.specs.CopyMove.{DestinationNames}
 use Rattle.dav_engine.specs.Sparing.{NoneUnder}
 use Rattle.dav_engine.proofs.OnePlanLemmas.{one_conditions}
-use Rattle.dav_server.specs.Head.{Request}
 use Rattle.dav_server.specs.Headers.{headers_of}
 use Rattle.dav_server.specs.Machine.{Exchange, Settings}
 use Rattle.dav_server.specs.TagLaws.{is_safe}
@@ -25,7 +24,7 @@ use Rattle.dav_confined.specs.SeenSteps.{ReadsAt, StepsAnswerAlike}
 use Rattle.dav_confined.proofs.LeaveLemmas.{by_reading, place_is}
 use Rattle.dav_confined.proofs.StepsConfined.{steps_leave_others, steps_leave_others_cut}
 use Rattle.dav_shards.specs.Shards.{elsewhere, has_destination, has_place, has_target, is_here}
-use Rattle.dav_shards.specs.ShardLaws.{AnswersTellOfHere, ChangesStayHere, ChangesStayHereCut, IsHere}
+use Rattle.dav_shards.specs.ShardLaws.{AnswersTellOfHere, ChangesStayHere, ChangesStayHereCut}
 use Rattle.dav_shards.proofs.PartLemmas.{parts_of}
 
 -- ---- paths

@@ -1,5 +1,5 @@
 -- Of a head one request is read, so the part of it that names what is elsewhere is one.
-use Rattle.std.proofs.Common.{◌≡◌, ◌||◌, ◌==◌, ℕ, Bool, true, false, true≢false, arith, length, not, bytes_eq, if◌then◌else◌, List, [], ◌∷◌, MatchOption, codes, Option, Some, None, Result, refl, sym, ap, subst, ◌∙◌}
+use Rattle.std.proofs.Common.{◌≡◌, ◌||◌, ◌==◌, ℕ, Bool, true, false, true≢false, arith, length, not, bytes_eq, if◌then◌else◌, List, [], ◌∷◌, MatchOption, codes, Option, Some, None, Result, refl, sym, ap, ◌∙◌}
 use Rattle.std.specs.List.{list_all, list_any}
 use Rattle.std.proofs.lemmas.Bool.Decides.{nat_tests}
 use Rattle.std.specs.Result.{result_ok}

@@ -1,5 +1,5 @@
-use Rattle.std.proofs.Common.{◌≡◌, ◌∷◌, ◌∙◌, ap, rules}
-use Rattle.dav_core.specs.Path.{IsName, PathText}
+use Rattle.std.proofs.Common.{◌≡◌, ◌∷◌, rules}
+use Rattle.dav_core.specs.Path.{IsName}
 use Rattle.dav_shards.proofs.FolderLemmas.{one_name}
 use Rattle.dav_shards.proofs.folder.first_folder.Goals as goal
 
