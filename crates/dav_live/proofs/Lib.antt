@@ -18,3 +18,4 @@ mod UnlockTexts
 mod RejectionLemmas
 mod PlainLemmas
 mod VerdictLemmas
+mod StreamLemmas

@@ -44,7 +44,8 @@ returns-in-Some c =
     let free : ¬ IsClosedTo a c.args.head.now = search rules in
     let lent : option_copied c.as_deref.result ≡ who = search rules in
     let has : HasLeaveIn a (option_copied c.as_deref.result) c.deref.result.now = search rules in
-    let there : IsElsewhereIn a c.in_ok-kept.kept.items c.in-Some.part = MatchOption-at_some _ _ c.in-Some.part c.in-Some.is c.in_ok-elsewhere_in.ensures in
+    let there : IsElsewhereIn a c.in_ok-kept.kept.items c.in-Some.part =
+    subst (λ (b : List ℕ). IsElsewhereIn a b c.in-Some.part) c.deref-2.ensures.value (MatchOption-at_some _ _ c.in-Some.part c.in-Some.is c.in_ok-part.ensures) in
     turned_away a c.args.tokens c.args.head.now c.args.body.now c.refused_of-in-Some.result r.0 (Elsewhere c.in-Some.part) _ r.1 r.2 r.3
     (elsewhere who c.in_ok-kept.kept.items c.in-Some.part c.requires.let_in c.requires.lean few (subst (λ p. ¬ IsOutside p c.args.head.now) prefix inside) free c.in_ok-kept.ensures
     (inl (subst (λ (u : Option (List ℕ)). HasLeaveIn a u c.in_ok-kept.kept.items) lent (subst (λ (b : List ℕ). HasLeaveIn a (option_copied c.as_deref.result) b) c.deref.ensures.value has))) there)
@@ -61,10 +62,13 @@ returns-then-branch-2 c =
     let lent : option_copied c.as_deref.result ≡ who = search rules in
     let has : HasLeaveIn a (option_copied c.as_deref.result) c.deref.result.now = search rules in
     let past : BeginsPast a.most_body c.args.head.now = search rules in
-    let here : IsHereIn a c.in_ok-kept.kept.items = MatchOption-at_none _ _ c.in_default.is c.in_ok-elsewhere_in.ensures in
+    let here : IsHereIn a c.in_ok-kept.kept.items = subst (IsHereIn a) c.deref-2.ensures.value (MatchOption-at_none _ _ c.in_default.is c.in_ok-part.ensures) in
     turned_away a c.args.tokens c.args.head.now c.args.body.now c.refused_of-then-branch-2.result r.0 TooFar _ r.1 r.2 r.3
     (too_far who c.in_ok-kept.kept.items c.requires.let_in c.requires.lean few (subst (λ p. ¬ IsOutside p c.args.head.now) prefix inside) free c.in_ok-kept.ensures
     (subst (λ (u : Option (List ℕ)). HasLeaveIn a u c.in_ok-kept.kept.items) lent (subst (λ (b : List ℕ). HasLeaveIn a (option_copied c.as_deref.result) b) c.deref.ensures.value has)) here past)
+
+pub admitted-requires-clause-here : goal.admitted-requires-clause-here
+admitted-requires-clause-here c = subst (IsHereIn c.args.self.now) c.deref-2.ensures.value (MatchOption-at_none _ _ c.in_default.is c.in_ok-part.ensures)
 
 pub admitted-requires-clause-within : goal.admitted-requires-clause-within
 admitted-requires-clause-within c =
