@@ -19,4 +19,3 @@ mod UnlockTexts
 mod RejectionLemmas
 mod PlainLemmas
 mod VerdictLemmas
-mod StreamLemmas

@@ -66,9 +66,6 @@ returns-then-branch-2 c =
     (too_far who c.in_ok-kept.kept.items c.requires.let_in c.requires.lean few (subst (λ p. ¬ IsOutside p c.args.head.now) prefix inside) free c.in_ok-kept.ensures
     (subst (λ (u : Option (List ℕ)). HasLeaveIn a u c.in_ok-kept.kept.items) lent (subst (λ (b : List ℕ). HasLeaveIn a (option_copied c.as_deref.result) b) c.deref.ensures.value has)) here past)
 
-pub admitted-requires-clause-here : goal.admitted-requires-clause-here
-admitted-requires-clause-here c = subst (IsHereIn c.args.self.now) c.deref-2.ensures.value (MatchOption-at_none _ _ c.in_default.is c.in_ok-part.ensures)
-
 pub admitted-requires-clause-within : goal.admitted-requires-clause-within
 admitted-requires-clause-within c =
     λ past.
