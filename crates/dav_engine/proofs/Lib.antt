@@ -5,6 +5,7 @@ pub mod PartLemmas
 pub mod KeptLemmas
 pub mod FoundLemmas
 pub mod TellLemmas
+pub mod TakingLemmas
 pub mod DeclaringLemmas
 pub mod InternetDates
 pub mod TellingLemmas

@@ -10,7 +10,7 @@ use Rattle.dav_core.specs.Path.{PathText}
 use Rattle.dav_engine.specs.Multistatus.{PathStatus, error_of, last_error, href, response_for, multistatus}
 use Rattle.dav_engine.specs.Properties.{Group, propstat, property_response}
 
-list_of_trees : (ts : List ElementTree) → tree_list (trees ts) ≡ ts
+pub list_of_trees : (ts : List ElementTree) → tree_list (trees ts) ≡ ts
 list_of_trees [] = refl
 list_of_trees (t ∷ ts) = ap (λ us. t ∷ us) (list_of_trees ts)
 

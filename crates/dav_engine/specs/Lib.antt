@@ -37,7 +37,7 @@ pub mod PlanLaws
 pub mod Properties
 pub mod PropertyView
 pub mod PropWriter
-pub mod PropWriterView
+pub mod Taking
 pub mod WriterCode
 pub mod Propfind
 pub mod PropfindLaws

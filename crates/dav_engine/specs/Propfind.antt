@@ -13,6 +13,7 @@ use Rattle.dav_headers.specs.Depth.{IsDepth}
 use Rattle.dav_headers.specs.Value.{only_text}
 use Rattle.dav_headers.specs.declared.depth.Depth.{Depth}
 use Rattle.dav_headers.specs.declared.depth.Depth.TheVariants.{Zero, Infinity}
+use Rattle.dav_engine.specs.declared.reply.ReplyBody.{ReplyBody}
 use Rattle.dav_engine.specs.declared.reply.ReplyBody.TheVariants as reply
 use Rattle.dav_engine.specs.declared.request.Body.{Body}
 use Rattle.dav_engine.specs.declared.request.Body.TheVariants as body
@@ -162,13 +163,17 @@ tell_itself true w p m = do
   one ← properties_of w p m None
   gives (one.0 ∷ [], one.1)
 
--- 207 with all responses (RFC 4918, section 13)
-abbrev pub propfind_reply : List Header → Writer → List ElementTree → Reply
-propfind_reply location w responses = record {
+-- 207 with this body, which isn't to be stored by caches (RFC 4918, section 13)
+abbrev pub found_reply : List Header → ReplyBody → Reply
+found_reply location content = record {
   status = 207;
   headers = uncached (location ++ xml_type ∷ []);
-  body = reply.Tree (told_by w responses);
+  body = content;
 }
+
+-- 207 with all responses (RFC 4918, section 13)
+abbrev pub propfind_reply : List Header → Writer → List ElementTree → Reply
+propfind_reply location w responses = found_reply location (reply.Tree (told_by w responses))
 
 -- a PROPFIND of what was found: 400 where the body asks for nothing
 abbrev pub propfind_found : FindHeaders → Headers → PathText → List Header → Body → Caller → DavMetaData → MethodPlan Reply

@@ -19,5 +19,6 @@ pub mod request;
 
 pub use davinner::{Backend, Caller, DavInner};
 pub use methods::copy_move::destination_in;
+pub use properties::takes::{Gathered, Takes};
 pub use reply::{Reply, ReplyBody};
 pub use request::{Body, DavRequest};

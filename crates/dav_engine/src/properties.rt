@@ -7,4 +7,5 @@ pub mod locks;
 pub mod prop_writer;
 pub(crate) mod response;
 pub(crate) mod stored;
+pub mod takes;
 pub(crate) mod writer;

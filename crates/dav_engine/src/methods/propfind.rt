@@ -1,17 +1,22 @@
 //! PROPFIND (RFC 4918, section 9.1).
-ghost use Rattle.std.specs.Prelude.{◌≡◌, ◌≢◌, ◌≤◌, ◌++◌, ◌∷◌, [], codes, IfOk, Some};
+ghost use Rattle.std.specs.Prelude.{◌≡◌, ◌≢◌, ◌≤◌, ◌++◌, ◌∷◌, [], codes, IfOk, None, Option, Result, Some};
 ghost use Rattle.dav_core.specs.Path.{star};
 ghost use Rattle.dav_core.specs.World.{last_moment};
 ghost use Rattle.http_header.specs.HeaderMap.{insert};
 ghost use Rattle.http_header.specs.FieldValue.{plain_value};
 ghost use Rattle.dav_engine.specs.OnHandler.{SameLocksBorrowed, ServesFrom, PropfindOf};
+ghost use Rattle.dav_engine.specs.Reply.{Reply};
 ghost use Rattle.dav_engine.specs.ConditionView.{locks_in};
 ghost use Rattle.dav_engine.specs.FindView.{response_at};
 ghost use Rattle.dav_engine.specs.Folder.{closed, location_found};
-ghost use Rattle.dav_engine.specs.Follows.{as_is, FollowsWithLocks};
+ghost use Rattle.dav_engine.specs.Follows.{as_is};
 ghost use Rattle.dav_engine.specs.Multistatus.{dav_element, declares_dav};
 ghost use Rattle.dav_engine.specs.Propfind as spec;
-ghost use Rattle.dav_engine.specs.PropWriter.{started, Tells};
+ghost use Rattle.dav_engine.specs.PropWriter.{hands_on, started, Tells};
+ghost use Rattle.dav_engine.specs.Taking.{FollowsHandingOn, HandsOn, IsHandedOn, grown_tree, opened_tree};
+ghost use Rattle.dav_engine.specs.declared.reply.ReplyBody.TheVariants.{Nothing, Tree};
+ghost use Rattle.dav_core.specs.declared.errors.DavError.{DavError as Error};
+ghost use Rattle.dav_core.specs.Element.{ElementTree};
 
 mod headers;
 mod members;
@@ -24,9 +29,10 @@ use crate::methods::propfind::members::tell_below;
 use crate::methods::propfind::query::query_in;
 use crate::properties::live::Resource;
 use crate::properties::prop_writer::PropWriter;
+use crate::properties::takes::{Gathered, Takes};
 use crate::properties::writer::Writer;
 use crate::reply::tree::{declaring_dav, with_child};
-use crate::reply::{Reply, set_header, set_xml_type, tree_reply};
+use crate::reply::{Reply, ReplyBody, set_header, set_xml_type, tree_reply};
 use crate::request::{Body, DavRequest};
 use dav_core::davpath::DavPath;
 use dav_core::element::Element;
@@ -70,38 +76,37 @@ fn finite_depth(alloc: Global) -> Result<Reply, NoMemory>
     tree_reply(status, Ok(headers), finite_depth_error(alloc))
 }
 
-// 207 with all responses.
-fn propfind_reply(
-    alloc: Global,
-    asked: &DavPath,
-    found: &DavMetaData,
-    told: PropWriter,
-) -> Result<Reply, NoMemory>
-    ensures { IfOk result (λ r. r ≡ spec.propfind_reply
-        (location_found (Some found.now) asked.now) told.writer
-        (told.finished ++ told.waiting)) }
+// 207, of which the multistatus was handed on.
+fn found_reply(alloc: Global, asked: &DavPath, found: &DavMetaData) -> Result<Reply, NoMemory>
+    ensures { IfOk result (λ r. r ≡ spec.found_reply
+        (location_found (Some found.now) asked.now) Nothing) }
 {
-    let headers = tree_headers(alloc, uncached(alloc), asked, Some(found));
-    tree_reply(StatusCode::MULTI_STATUS, headers, told.all_told(alloc))
+    let headers = tree_headers(alloc, uncached(alloc), asked, Some(found))?;
+    Ok(Reply {
+        status: StatusCode::MULTI_STATUS,
+        headers,
+        body: ReplyBody::Nothing,
+    })
 }
 
 // Tells what was found at a path, and what is below it, as deep as the headers say.
-fn told<F: DavFileSystem, L: DavLockSystem>(
+fn told<F: DavFileSystem, L: DavLockSystem, T: Takes + Drop>(
     fs: &mut F,
     ls: Option<&L>,
     alloc: Global,
     headers: &FindHeaders,
     writer: Writer,
     found: Resource<'_>,
-) -> Result<PropWriter, NoMemory>
+    to: T,
+) -> Result<PropWriter<T>, NoMemory>
     requires path { found.path.now.bytes ≢ star }
     requires created { found.meta.now.created ≤ last_moment }
     requires modified { found.meta.now.modified ≤ last_moment }
-    ensures { Tells (locks_in L.locks ls.entry) as_is
+    ensures { Tells (locks_in L.locks ls.entry) (hands_on T.taken) as_is
         (λ known. response_at headers.now writer found.entry.path.now found.entry.meta.now)
-        (started writer) as_is (F.state fs.old) result (F.state fs.new) }
+        (started T.opened writer to) as_is (F.state fs.old) result (F.state fs.new) }
 {
-    let mut writer = PropWriter::started(alloc, writer);
+    let mut writer = PropWriter::started(alloc, writer, to)?;
     if headers.tells_itself() {
         writer.tell(alloc, fs, ls, found)?;
     }
@@ -121,17 +126,18 @@ struct Search<'a, 'c> {
 }
 
 // Tells what was found at the path of a request.
-fn propfind_found<F: DavFileSystem, L: DavLockSystem>(
+fn propfind_found<F: DavFileSystem, L: DavLockSystem, T: Takes + Drop>(
     fs: &mut F,
     ls: Option<&L>,
     alloc: Global,
     search: Search<'_, '_>,
     found: &DavMetaData,
-) -> DavResult<Reply>
+    to: T,
+) -> DavResult<(Reply, Option<T>)>
     requires path { search.request.now.path.bytes ≢ star }
     requires created { found.now.created ≤ last_moment }
     requires modified { found.now.modified ≤ last_moment }
-    ensures { FollowsWithLocks (locks_in L.locks ls.entry) as_is
+    ensures { FollowsHandingOn T.opened T.taken to (locks_in L.locks ls.entry)
         (spec.propfind_found search.entry.headers.now search.entry.request.now.headers
         (closed found.now.dir search.entry.request.now.path)
         (location_found (Some found.now) search.entry.request.now.path)
@@ -159,29 +165,60 @@ fn propfind_found<F: DavFileSystem, L: DavLockSystem>(
         path: &path,
         meta: found,
     };
-    let told = told(fs, ls, alloc, headers, writer, resource)?;
-    Ok(propfind_reply(alloc, &request.path, found, told)?)
+    let told = told(fs, ls, alloc, headers, writer, resource, to)?;
+    let reply = found_reply(alloc, &request.path, found)?;
+    Ok((reply, Some(told.into_finished())))
 }
 
 // Tells what is at the path of a request.
-fn propfind<F: DavFileSystem, L: DavLockSystem>(
+fn propfind<F: DavFileSystem, L: DavLockSystem, T: Takes + Drop>(
     fs: &mut F,
     ls: Option<&L>,
     alloc: Global,
     search: Search<'_, '_>,
-) -> DavResult<Reply>
+    to: T,
+) -> DavResult<(Reply, Option<T>)>
     requires path { search.request.now.path.bytes ≢ star }
-    ensures { FollowsWithLocks (locks_in L.locks ls.entry) as_is
+    ensures { FollowsHandingOn T.opened T.taken to (locks_in L.locks ls.entry)
         (spec.propfind search.entry.headers.now search.entry.request.now.headers
         search.entry.request.now.path search.entry.body.now search.entry.caller.now)
         (F.state fs.old) result (F.state fs.new) }
 {
     if !search.headers.is_served() {
-        return Ok(finite_depth(alloc)?);
+        return Ok((finite_depth(alloc)?, None));
     }
     match fs.metadata(&search.request.path) {
-        Ok(found) => propfind_found(fs, ls, alloc, search, &found),
+        Ok(found) => propfind_found(fs, ls, alloc, search, &found, to),
         Err(e) => Err(DavError::FsError(e)),
+    }
+}
+
+// A reply with a tree as its body.
+fn with_tree(told: Reply, tree: Gathered) -> Reply
+    ensures { (root : ElementTree) → tree ≡ Some root → result ≡ record told { body = Tree root } }
+{
+    let Reply {
+        status, headers, ..
+    } = told;
+    let body = match tree.into_tree() {
+        Some(root) => ReplyBody::Tree(root),
+        None => ReplyBody::Nothing,
+    };
+    Reply {
+        status,
+        headers,
+        body,
+    }
+}
+
+// The whole reply, whose multistatus was handed on to a tree.
+fn gathered(told: Reply, tree: Option<Gathered>) -> Reply
+    ensures { (whole : Reply) → IsHandedOn opened_tree grown_tree None whole told tree
+        → result ≡ whole }
+{
+    match tree {
+        Some(tree) => with_tree(told, tree),
+        None => told,
     }
 }
 
@@ -209,6 +246,28 @@ impl<'a, 'b, 'c, F: DavFileSystem, L: DavLockSystem> DavInner<'a, 'b, 'c, F, L> 
         ensures lent { SameLocksBorrowed self.old self.new }
         ensures serves { ServesFrom (PropfindOf request.now body.now) self.old result self.new }
     {
+        match self.handle_propfind_to(alloc, request, body, Gathered::new()) {
+            Ok((reply, tree)) => Ok(gathered(reply, tree)),
+            Err(error) => Err(error),
+        }
+    }
+
+    /// The same, and the multistatus is handed on to `to`, without responses and then response by response, as they are made: the
+    /// reply is told without a body then, and what took the responses is given back. `None` where nothing was handed on: the reply
+    /// is whole.
+    pub fn handle_propfind_to<T: Takes + Drop>(
+        &mut self,
+        alloc: Global,
+        request: &DavRequest,
+        body: &Body,
+        to: T,
+    ) -> DavResult<(Reply, Option<T>)>
+        requires path { request.now.path.bytes ≢ star }
+        ensures lent { SameLocksBorrowed self.old self.new }
+        ensures serves { (whole : Result Reply Error)
+            × ServesFrom (PropfindOf request.now body.now) self.old whole self.new
+            × HandsOn T.opened T.taken to whole result }
+    {
         let headers = FindHeaders::decode(alloc, &request.headers)?;
         let search = Search {
             request,
@@ -217,6 +276,6 @@ impl<'a, 'b, 'c, F: DavFileSystem, L: DavLockSystem> DavInner<'a, 'b, 'c, F, L> 
             caller: self.caller,
         };
         let backend = &mut *self.backend;
-        propfind(&mut backend.fs, backend.ls.as_ref(), alloc, search)
+        propfind(&mut backend.fs, backend.ls.as_ref(), alloc, search, to)
     }
 }

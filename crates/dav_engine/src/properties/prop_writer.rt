@@ -5,10 +5,10 @@ ghost use Rattle.std.specs.Option.{option_copied};
 ghost use Rattle.dav_core.specs.World.{last_moment};
 ghost use Rattle.dav_core.specs.declared.errors.DavError.TheVariants as DavError;
 ghost use Rattle.dav_engine.specs.ConditionView.{locks_in};
-ghost use Rattle.dav_engine.specs.Properties.{properties_of, property_response, is_in, told_by, writer, telling_of};
-ghost use Rattle.dav_engine.specs.Properties as spec;
+ghost use Rattle.dav_engine.specs.Properties.{properties_of, property_response, is_in, writer, telling_of};
 ghost use Rattle.dav_engine.specs.PropertyView.{groups_in};
-ghost use Rattle.dav_engine.specs.PropWriter.{alone, started, BeginsReply, Tells};
+ghost use Rattle.dav_engine.specs.PropWriter.{alone, hands_on, started, waits, BeginsReply, Tells};
+ghost use Rattle.dav_engine.specs.Taking.{taken_all};
 ghost use Rattle.dav_engine.specs.Declaring.{declared, declares_namespaces, opened};
 ghost use Rattle.dav_engine.specs.Multistatus.{multistatus};
 
@@ -16,8 +16,8 @@ use crate::properties::found::response_of;
 use crate::properties::kind::{Telling, is_in};
 use crate::properties::live::{Quota, Resource};
 use crate::properties::response::property_response;
+use crate::properties::takes::Takes;
 use crate::properties::writer::Writer;
-use crate::reply::multistatus::Sender;
 use crate::reply::tree::declaring_dav;
 use crate::reply::{Reply, set_xml_type};
 use crate::request::DavRequest;
@@ -30,6 +30,7 @@ use http::StatusCode;
 use std::alloc::Global;
 use std::collections::BTreeMap;
 use std::marker::Model;
+use std::mem;
 
 // Whether one of the properties is of this namespace.
 fn has_in(space: &str, properties: &[Element]) -> bool
@@ -83,46 +84,50 @@ fn opened(alloc: Global, telling: Telling, properties: &[Element]) -> Result<Ele
     declare(element, "oc", "http://owncloud.org/ns", properties)
 }
 
-// The element for all responses.
-fn told_by(alloc: Global, writer: &Writer, responses: Vec<Element>) -> Result<Element, NoMemory>
-    ensures { IfOk result (λ e. e ≡ told_by writer.now responses.items) }
+// Hands responses on to what takes them.
+fn hand_on<T: Takes>(alloc: Global, to: &mut T, responses: Vec<Element>) -> Result<(), NoMemory>
+    ensures { OnOk result (to.new ≡ taken_all T.taken to.old responses.items) }
 {
-    let mut element = opened(alloc, writer.telling, &writer.properties)?;
     for response in responses {
-        element.push_element(response)?;
+        to.take(alloc, response)?;
     }
-    Ok(element)
+    Ok(())
 }
 
-/// What tells properties of resources: each has a response, and all responses are an element tree.
+/// What tells properties of resources: each has a response, and the multistatus of all responses is handed on in parts.
 #[derive(Drop)]
-pub struct PropWriter {
+pub struct PropWriter<T: Takes> {
     // How they are told.
     writer: Writer,
     // What is known of the quota.
     quota: Option<Quota>,
-    // The responses that were sent.
-    finished: Sender<Element>,
-    // The responses that weren't sent yet.
+    // What takes the responses.
+    finished: T,
+    // The responses that weren't handed on yet.
     waiting: Vec<Element>,
 }
 
-impl Model for PropWriter {
+impl<T: Takes> Model for PropWriter<T> {
     ghost use Rattle.dav_engine.specs.PropWriter as said;
     ghost use Rattle.dav_engine.specs.WriterCode.{coded_writing};
     ghost use Rattle.dav_engine.specs.contracts.properties.kind.Telling as kind;
 
-    ghost Value = { said.PropWriter };
+    ghost Value = { said.PropWriter T };
 
-    ghost coded = { coded_writing kind.the_row.coded };
+    ghost coded = { coded_writing T.code kind.the_row.coded };
 
-    ghost use Rattle.dav_engine.specs.PropWriterView.{prop_writer_of};
-
-    ghost view = { prop_writer_of };
+    ghost view = { λ w. record {
+      writer = w.writer;
+      quota = w.quota;
+      finished = w.finished;
+      waiting = w.waiting.items;
+    } };
 }
 
-impl PropWriter {
-    /// Begins the reply to a request that tells properties: its status is 207, and it has `content-type`. `name` is that of the
+impl<T: Takes + Drop> PropWriter<T> {
+    /// Begins the reply to a request that tells properties: its status is 207, and it has `content-type`; and hands the multistatus
+    /// on to what takes the responses, without any. It declares the namespaces of the properties that are told, of those that
+    /// the server knows, and none where outcomes are told (RFC 4918, section 14.16). `name` is that of the
     /// element that asks for them (RFC 4918, sections 14.2, 14.18, 14.19 and 14.20): `prop` for the given properties;
     /// `allprop` for them and then all that every resource has; `propname` for names alone; `propertyupdate` for what became
     /// of changes. Under another name the given ones are followed by those that are told under `propname`.
@@ -135,42 +140,47 @@ impl PropWriter {
         name: &str,
         props: Vec<Element>,
         principal: Option<&str>,
-    ) -> DavResult<PropWriter>
-        ensures writer { IfOk result (λ w. w ≡ started (writer (telling_of name.now)
-            request.now.headers (option_copied principal.entry) props.items)) }
+        to: T,
+    ) -> DavResult<PropWriter<T>>
+        ensures writer { IfOk result (λ w. w ≡ started T.opened (writer (telling_of name.now)
+            request.now.headers (option_copied principal.entry) props.items) to) }
         ensures reply { OnOk result (BeginsReply reply.old reply.new) }
         ensures unchanged { OnErr result (reply.new ≡ reply.old) }
         ensures memory { IfErr result (λ e. e ≡ DavError.Memory) }
     {
         let telling = Telling::by_name(name);
         let writer = Writer::new(alloc, telling, &request.headers, principal, props)?;
+        let started = PropWriter::started(alloc, writer, to)?;
         set_xml_type(&mut reply.headers)?;
         reply.status = StatusCode::MULTI_STATUS;
-        Ok(PropWriter::started(alloc, writer))
+        Ok(started)
     }
 
-    /// Sends the responses to a list, which is empty; it is called once, before any is sent.
-    pub fn set_tx(&mut self, tx: Sender<Element>)
-        requires empty { tx.items ≡ [] }
-        requires first { self.old.finished ≡ [] }
-        ensures { self.new ≡ self.old }
+    // Hands the multistatus on without any response.
+    pub(crate) fn started(alloc: Global, writer: Writer, to: T) -> Result<PropWriter<T>, NoMemory>
+        ensures { IfOk result (λ w. w ≡ started T.opened writer to) }
     {
-        self.finished = tx;
-    }
-
-    // Nothing is written yet.
-    pub(crate) fn started(alloc: Global, writer: Writer) -> PropWriter
-        ensures { result ≡ started writer }
-    {
-        PropWriter {
+        let mut finished = to;
+        let multistatus = opened(alloc, writer.telling, &writer.properties)?;
+        finished.open(alloc, multistatus)?;
+        Ok(PropWriter {
             writer,
             quota: None,
-            finished: Vec::new(alloc),
+            finished,
             waiting: Vec::new(alloc),
-        }
+        })
     }
 
-    // Adds the response for a resource.
+    // What took the responses.
+    pub(crate) fn into_finished(self) -> T
+        ensures { result ≡ self.finished }
+    {
+        self.finished
+    }
+}
+
+impl<T: Takes> PropWriter<T> {
+    // Hands the response for a resource on.
     pub(crate) fn tell<F: DavFileSystem, L: DavLockSystem>(
         &mut self,
         alloc: Global,
@@ -180,14 +190,13 @@ impl PropWriter {
     ) -> Result<(), NoMemory>
         requires created { resource.meta.now.created ≤ last_moment }
         requires modified { resource.meta.now.modified ≤ last_moment }
-        ensures tells { Tells (locks_in L.locks ls.entry) alone
+        ensures { Tells (locks_in L.locks ls.entry) (hands_on T.taken) alone
             (properties_of self.old.writer resource.entry.path.now resource.entry.meta.now)
             self.old (λ _. self.new) (F.state fs.old) result (F.state fs.new) }
-        ensures stays { OnErr result (self.new ≡ self.old) }
     {
         let mut known = self.quota;
         let response = response_of(fs, ls, alloc, &self.writer, resource, &mut known)?;
-        self.waiting.push(response)?;
+        self.finished.take(alloc, response)?;
         self.quota = known;
         Ok(())
     }
@@ -207,13 +216,18 @@ impl PropWriter {
     ) -> DavResult<()>
         requires created { meta.now.created ≤ last_moment }
         requires modified { meta.now.modified ≤ last_moment }
-        ensures tells { Tells (locks_in L.locks ls.entry) alone
+        ensures tells { Tells (locks_in L.locks ls.entry) waits alone
             (properties_of self.old.writer path.now meta.now)
             self.old (λ _. self.new) (F.state fs.old) result (F.state fs.new) }
         ensures stays { OnErr result (self.new ≡ self.old) }
         ensures memory { IfErr result (λ e. e ≡ DavError.Memory) }
     {
-        Ok(self.tell(alloc, fs, ls, Resource { path, meta })?)
+        let mut known = self.quota;
+        let resource = Resource { path, meta };
+        let response = response_of(fs, ls, alloc, &self.writer, resource, &mut known)?;
+        self.waiting.push(response)?;
+        self.quota = known;
+        Ok(())
     }
 
     /// Adds the response for one path: properties under their statuses, in rising order; a status without properties is
@@ -224,9 +238,8 @@ impl PropWriter {
         path: &DavPath,
         props: BTreeMap<u16, Vec<Element>>,
     ) -> DavResult<()>
-        ensures ok { OnOk result (self.new ≡ record self.old {
-          waiting = self.old.waiting ++ property_response path.now (groups_in props) ∷ [];
-        }) }
+        ensures ok { OnOk result (self.new
+            ≡ waits self.old (property_response path.now (groups_in props) ∷ [])) }
         ensures err { OnErr result (self.new ≡ self.old) }
         ensures memory { IfErr result (λ e. e ≡ DavError.Memory) }
     {
@@ -235,43 +248,25 @@ impl PropWriter {
         Ok(())
     }
 
-    /// Sends the responses that wait. `Memory` where memory runs out; they then wait on.
-    pub fn flush(&mut self) -> DavResult<()>
-        ensures ok { OnOk result (self.new ≡ record self.old {
-          finished = self.old.finished ++ self.old.waiting;
-          waiting = [];
-        }) }
-        ensures err { OnErr result (self.new ≡ self.old) }
+    /// Hands the responses that wait on, in order. `Memory` where memory runs out; then some of them may have been taken.
+    pub fn flush(&mut self, alloc: Global) -> DavResult<()>
+        ensures ok { OnOk result (self.new
+            ≡ record (hands_on T.taken self.old self.old.waiting) { waiting = [] }) }
         ensures memory { IfErr result (λ e. e ≡ DavError.Memory) }
     {
-        self.finished.append(&mut self.waiting)?;
-        Ok(())
+        let waiting = mem::replace(&mut self.waiting, Vec::new(alloc));
+        Ok(hand_on(alloc, &mut self.finished, waiting)?)
     }
+}
 
-    // The element with all responses that were written, in order.
-    pub(crate) fn all_told(mut self, alloc: Global) -> Result<Element, NoMemory>
-        ensures { IfOk result (λ e. e
-            ≡ spec.told_by self.writer (self.finished ++ self.waiting)) }
-    {
-        let waiting = &mut self.waiting;
-        self.finished.append(waiting)?;
-        let PropWriter {
-            writer,
-            finished,
-            ..
-        } = self;
-        told_by(alloc, &writer, finished)
-    }
-
-    /// The element with all responses that were written, in order (RFC 4918, section 14.16). It declares the namespaces of the
-    /// properties that are told, of those that the server knows, and none where outcomes are told.
-    ///
-    /// `Memory` where memory runs out.
-    pub fn close(self, alloc: Global) -> DavResult<Element>
-        ensures ok { IfOk result (λ e. e
-            ≡ spec.told_by self.writer (self.finished ++ self.waiting)) }
+impl<T: Takes + Drop> PropWriter<T> {
+    /// Hands the responses that wait on, and gives back what took all of them (RFC 4918, section 14.16). `Memory` where memory runs
+    /// out.
+    pub fn close(mut self, alloc: Global) -> DavResult<T>
+        ensures ok { IfOk result (λ t. t ≡ taken_all T.taken self.finished self.waiting) }
         ensures memory { IfErr result (λ e. e ≡ DavError.Memory) }
     {
-        Ok(self.all_told(alloc)?)
+        self.flush(alloc)?;
+        Ok(self.into_finished())
     }
 }

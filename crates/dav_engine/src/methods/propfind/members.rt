@@ -8,32 +8,33 @@ ghost use Rattle.dav_engine.specs.Follows.{as_is};
 ghost use Rattle.dav_engine.specs.Propfind.{tell_below, tell_members};
 ghost use Rattle.dav_engine.specs.Reach.{reaches_below};
 ghost use Rattle.dav_engine.specs.WalkView.{entry_view};
-ghost use Rattle.dav_engine.specs.PropWriter.{Tells};
+ghost use Rattle.dav_engine.specs.PropWriter.{hands_on, Tells};
 
 use crate::depth::Reach;
 use crate::folder::{child, names_fit};
 use crate::properties::live::Resource;
 use crate::properties::prop_writer::PropWriter;
+use crate::properties::takes::Takes;
 use dav_core::davpath::DavPath;
 use dav_core::errors::NoMemory;
 use dav_core::fs::{DavDirEntry, DavFileSystem, ReadDirMeta};
 use dav_core::ls::DavLockSystem;
 use std::alloc::Global;
 
-/// Adds the responses for what is below a path, where that is wanted: for each member of the folder alone, or with everything
+/// Hands the responses on for what is below a path, where that is wanted: for each member of the folder alone, or with everything
 /// below the member after it. What the store refuses to list or to tell of is passed over.
 #[cycle(members)]
-pub fn tell_below<F: DavFileSystem, L: DavLockSystem>(
+pub fn tell_below<F: DavFileSystem, L: DavLockSystem, T: Takes>(
     fs: &mut F,
     ls: Option<&L>,
     alloc: Global,
     reach: Reach,
-    writer: &mut PropWriter,
+    writer: &mut PropWriter<T>,
     path: &DavPath,
     wanted: bool,
 ) -> Result<(), NoMemory>
     requires path { path.now.bytes ≢ star }
-    ensures { Tells (locks_in L.locks ls.entry) as_is
+    ensures { Tells (locks_in L.locks ls.entry) (hands_on T.taken) as_is
         (tell_below (reaches_below reach) (room_at path.now) writer.old.writer path.now wanted)
         writer.old (λ _. writer.new) (F.state fs.old) result (F.state fs.new) }
 {
@@ -47,20 +48,20 @@ pub fn tell_below<F: DavFileSystem, L: DavLockSystem>(
     }
 }
 
-// Adds the responses for the members of a folder.
+// Hands the responses on for the members of a folder.
 #[cycle(members)]
-fn tell_members<F: DavFileSystem, L: DavLockSystem>(
+fn tell_members<F: DavFileSystem, L: DavLockSystem, T: Takes>(
     fs: &mut F,
     ls: Option<&L>,
     alloc: Global,
     reach: Reach,
-    writer: &mut PropWriter,
+    writer: &mut PropWriter<T>,
     path: &DavPath,
     entries: &[F::Entry],
 ) -> Result<(), NoMemory>
     requires path { path.now.bytes ≢ star }
     requires folder { All (λ e. F.Entry.entry_folder e ≡ names path.now) entries.now }
-    ensures { Tells (locks_in L.locks ls.entry) as_is
+    ensures { Tells (locks_in L.locks ls.entry) (hands_on T.taken) as_is
         (λ known. tell_members (told_below (reaches_below reach) path.now writer.old.writer)
         writer.old.writer path.now known
         (map (entry_view F.Entry.entry_name F.Entry.entry_dir) entries.now))
@@ -72,20 +73,20 @@ fn tell_members<F: DavFileSystem, L: DavLockSystem>(
     Ok(())
 }
 
-// Adds the responses for a member of a folder, and for what is below it.
+// Hands the responses on for a member of a folder, and for what is below it.
 #[cycle(members)]
-fn tell_entry<F: DavFileSystem, L: DavLockSystem>(
+fn tell_entry<F: DavFileSystem, L: DavLockSystem, T: Takes>(
     fs: &mut F,
     ls: Option<&L>,
     alloc: Global,
     reach: Reach,
-    writer: &mut PropWriter,
+    writer: &mut PropWriter<T>,
     path: &DavPath,
     entry: &F::Entry,
 ) -> Result<(), NoMemory>
     requires path { path.now.bytes ≢ star }
     requires folder { F.Entry.entry_folder entry.now ≡ names path.now }
-    ensures { Tells (locks_in L.locks ls.entry) as_is
+    ensures { Tells (locks_in L.locks ls.entry) (hands_on T.taken) as_is
         (told_entry (reaches_below reach) path.now
         writer.old.writer (F.Entry.entry_name entry.now))
         writer.old (λ _. writer.new) (F.state fs.old) result (F.state fs.new) }

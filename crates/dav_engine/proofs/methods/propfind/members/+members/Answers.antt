@@ -14,32 +14,32 @@ use Rattle.dav_engine.proofs.methods.propfind.members.+members.Goals.{tell_entry
 use Rattle.dav_engine.proofs.methods.propfind.members.+members.Goals as goal
 
 pub tell_below-returns-then-not-wanted : goal.tell_below-returns-then-not-wanted
-tell_below-returns-then-not-wanted g t c = rw c.if-not-wanted.true (not_wanted _ (reaches_below c.args.reach) c.args.path.now c.args.writer.now)
+tell_below-returns-then-not-wanted g t c = rw c.if-not-wanted.true (not_wanted g.T.Takes.taken _ (reaches_below c.args.reach) c.args.path.now c.args.writer.now)
 
 pub tell_below-returns-in-Ok : goal.tell_below-returns-in-Ok
 tell_below-returns-in-Ok g t c =
     let small : length c.args.path.now.bytes < 2 ^ 64 = c.names_fit.ensures in
     let view = entry_view g.F.Entry.DavDirEntry.entry_name g.F.Entry.DavDirEntry.entry_dir in
     let w = c.args.writer.now in
-    rw c.if-not-wanted.false (tells_by as_is as_is (tell_below (reaches_below c.args.reach) (room_at c.args.path.now) w.writer c.args.path.now true)
+    rw c.if-not-wanted.false (tells_by g.T.Takes.taken as_is as_is (tell_below (reaches_below c.args.reach) (room_at c.args.path.now) w.writer c.args.path.now true)
     (λ known. tell_members (told_below (reaches_below c.args.reach) c.args.path.now w.writer) w.writer c.args.path.now known (map view c.in-Ok.entries.items)) w w
     c.tell_members.result (rw c.deref.ensures.value at c.tell_members.ensures)
-    (λ u. folder_told _ (reaches_below c.args.reach) c.args.path.now c.args.writer.now c.tell_members.new.writer small c.in-Ok.ensures.asks)
-    (folder_stopped _ (reaches_below c.args.reach) c.args.path.now c.args.writer.now.writer c.args.writer.now.quota small c.in-Ok.ensures.asks))
+    (λ u. folder_told g.T.Takes.taken _ (reaches_below c.args.reach) c.args.path.now c.args.writer.now c.tell_members.new.writer small c.in-Ok.ensures.asks)
+    (folder_stopped g.T.Takes.taken _ (reaches_below c.args.reach) c.args.path.now c.args.writer.now.writer c.args.writer.now.quota small c.in-Ok.ensures.asks))
 
 pub tell_below-returns-in-Err : goal.tell_below-returns-in-Err
 tell_below-returns-in-Err g t c =
     let small : length c.args.path.now.bytes < 2 ^ 64 = c.names_fit.ensures in
-    rw c.if-not-wanted.false (folder_refused _ (reaches_below c.args.reach) c.args.path.now c.args.writer.now small c.in-Err.ensures.asks)
+    rw c.if-not-wanted.false (folder_refused g.T.Takes.taken _ (reaches_below c.args.reach) c.args.path.now c.args.writer.now small c.in-Err.ensures.asks)
 
 pub tell_entry-returns-in_default : goal.tell_entry-returns-in_default
 tell_entry-returns-in_default g t c =
-    entry_refused _ (reaches_below c.args.reach) c.args.path.now (g.F.Entry.DavDirEntry.entry_name c.args.entry.now) c.args.writer.now (rw c.requires.folder at c.in_default.ensures.asks)
+    entry_refused g.T.Takes.taken _ (reaches_below c.args.reach) c.args.path.now (g.F.Entry.DavDirEntry.entry_name c.args.entry.now) c.args.writer.now (rw c.requires.folder at c.in_default.ensures.asks)
 
 pub tell_entry-returns-in_err-child : goal.tell_entry-returns-in_err-child
 tell_entry-returns-in_err-child g t c =
     let p = err_from_is_err_and c.from_residual.result c.from_residual.ensures.1 in
-    rw p.1 (entry_cut _ (reaches_below c.args.reach) c.args.path.now (g.F.Entry.DavDirEntry.entry_name c.args.entry.now) c.args.writer.now.writer c.args.writer.now.quota
+    rw p.1 (entry_cut g.T.Takes.taken _ (reaches_below c.args.reach) c.args.path.now (g.F.Entry.DavDirEntry.entry_name c.args.entry.now) c.args.writer.now.writer c.args.writer.now.quota
     (rw c.requires.folder at c.in-Ok.ensures.asks))
 
 pub tell_entry-returns-in_err-tell : goal.tell_entry-returns-in_err-tell
@@ -47,8 +47,8 @@ tell_entry-returns-in_err-tell g t c =
     let name = g.F.Entry.DavDirEntry.entry_name c.args.entry.now in
     let path = c.in_ok-child.ensures ∙ ap (λ n. child_of c.args.path.now n c.in-Ok.meta.dir) c.name.ensures.value in
     let p = err_from_is_err_and c.from_residual-in_err-tell.result c.from_residual-in_err-tell.ensures.1 in
-    rw p.1 (member_stopped _ (reaches_below c.args.reach) c.args.path.now name c.args.writer.now.writer c.args.writer.now.quota c.in_ok-child.child c.in-Ok.meta path
-    (rw c.requires.folder at c.in-Ok.ensures.asks) c.in_err-tell.ensures.tells)
+    rw p.1 (member_stopped g.T.Takes.taken _ (reaches_below c.args.reach) c.args.path.now name c.args.writer.now.writer c.args.writer.now.quota c.in_ok-child.child c.in-Ok.meta path
+    (rw c.requires.folder at c.in-Ok.ensures.asks) c.in_err-tell.ensures)
 
 pub tell_entry-tell_below-requires : goal.tell_entry-tell_below-requires
 tell_entry-tell_below-requires g t c κs within =
@@ -72,12 +72,12 @@ tell_entry-returns g t c =
     ] in
     let child = c.in_ok-child.child in
     let mid = c.tell.new.self in
-    tells_by as_is as_is (told_entry (reaches_below c.args.reach) c.args.path.now c.args.writer.now.writer name) (tell_below (reaches_below c.args.reach) (room_at child) mid.writer child c.if-meta.wanted) c.args.writer.now mid
+    tells_by g.T.Takes.taken as_is as_is (told_entry (reaches_below c.args.reach) c.args.path.now c.args.writer.now.writer name) (tell_below (reaches_below c.args.reach) (room_at child) mid.writer child c.if-meta.wanted) c.args.writer.now mid
     c.tell_below.result c.tell_below.ensures
-    (λ u. member_told _ (reaches_below c.args.reach) c.args.path.now name c.args.writer.now mid c.tell_below.new.writer child child c.if-meta.wanted c.in-Ok.meta path path room both
-    (rw c.requires.folder at c.in-Ok.ensures.asks) c.in_ok-tell.ensures.tells)
-    (below_stopped _ (reaches_below c.args.reach) c.args.path.now name c.args.writer.now mid child child c.if-meta.wanted c.in-Ok.meta path path room both
-    (rw c.requires.folder at c.in-Ok.ensures.asks) c.in_ok-tell.ensures.tells)
+    (λ u. member_told g.T.Takes.taken _ (reaches_below c.args.reach) c.args.path.now name c.args.writer.now mid c.tell_below.new.writer child child c.if-meta.wanted c.in-Ok.meta path path room both
+    (rw c.requires.folder at c.in-Ok.ensures.asks) c.in_ok-tell.ensures)
+    (below_stopped g.T.Takes.taken _ (reaches_below c.args.reach) c.args.path.now name c.args.writer.now mid child child c.if-meta.wanted c.in-Ok.meta path path room both
+    (rw c.requires.folder at c.in-Ok.ensures.asks) c.in_ok-tell.ensures)
 
 pub tell_members-returns-in_err-tell_entry : goal.tell_members-returns-in_err-tell_entry
 tell_members-returns-in_err-tell_entry g t c =
@@ -86,7 +86,7 @@ tell_members-returns-in_err-tell_entry g t c =
     let i = c.loop-entry.entry-index in
     let x = c.entry-item.result in
     let p = err_from_is_err_and c.from_residual.result c.from_residual.ensures.1 in
-    rw p.1 (entry_stopped _ (reaches_below c.args.reach) c.args.path.now (map view es) (map view (drop (i + 1) es)) (map view (drop i es)) (view x) c.args.writer.now c.loop-entry.writer
+    rw p.1 (entry_stopped g.T.Takes.taken _ (reaches_below c.args.reach) c.args.path.now (map view es) (map view (drop (i + 1) es)) (map view (drop i es)) (view x) c.args.writer.now c.loop-entry.writer
     (from_place view es i x c.loop-entry-test.true c.entry-item.is) c.in_err-tell_entry.ensures c.loop-entry.invariant)
 
 pub tell_members-loop-entry-preserved : goal.tell_members-loop-entry-preserved
@@ -95,7 +95,7 @@ tell_members-loop-entry-preserved g t c =
     let es = c.args.entries.now in
     let i = c.loop-entry.entry-index in
     let x = c.entry-item.result in
-    rest_told _ (reaches_below c.args.reach) c.args.path.now (map view es) (map view (drop (i + 1) es)) (map view (drop i es)) (view x) c.args.writer.now c.loop-entry.writer _
+    rest_told g.T.Takes.taken _ (reaches_below c.args.reach) c.args.path.now (map view es) (map view (drop (i + 1) es)) (map view (drop i es)) (view x) c.args.writer.now c.loop-entry.writer _
     (from_place view es i x c.loop-entry-test.true c.entry-item.is) c.in_ok-tell_entry.ensures c.loop-entry.invariant
 
 pub tell_members-returns : goal.tell_members-returns
@@ -103,4 +103,4 @@ tell_members-returns g t c =
     let view = entry_view g.F.Entry.DavDirEntry.entry_name g.F.Entry.DavDirEntry.entry_dir in
     let es = c.args.entries.now in
     let i = c.loop-entry.entry-index in
-    all_told _ (reaches_below c.args.reach) c.args.path.now (map view es) (map view (drop i es)) c.args.writer.now c.loop-entry.writer (from_end view es i c.loop-entry-test.false) c.loop-entry.invariant
+    all_told g.T.Takes.taken _ (reaches_below c.args.reach) c.args.path.now (map view es) (map view (drop i es)) c.args.writer.now c.loop-entry.writer (from_end view es i c.loop-entry-test.false) c.loop-entry.invariant

@@ -20,4 +20,4 @@ abbrev pub invariant-tell_members-loop-entry : goal.invariant-tell_members-loop-
 invariant-tell_members-loop-entry g l =
     let state = g.F.DavFileSystem.state in
     let view = entry_view g.F.Entry.DavDirEntry.entry_name g.F.Entry.DavDirEntry.entry_dir in
-    Rest (locks_in g.L.DavLockSystem.locks l.ls) (reaches_below l.reach) l.path (map view l.fn.entries) l.fn.writer (state l.fn.fs) (map view (drop l.entry-index l.entries)) l.writer (state l.fs)
+    Rest g.T.Takes.taken (locks_in g.L.DavLockSystem.locks l.ls) (reaches_below l.reach) l.path (map view l.fn.entries) l.fn.writer (state l.fn.fs) (map view (drop l.entry-index l.entries)) l.writer (state l.fs)
