@@ -22,7 +22,7 @@ use Rattle.dav_engine.specs.Reply.{Reply, Header}
 use Rattle.dav_engine.specs.PropWriter.{PropWriter, started, alone}
 use Rattle.dav_engine.specs.Taking.{FollowsHandingOn}
 use Rattle.dav_engine.proofs.CutPlans.{cut_first, cut_bind, cut_in}
-use Rattle.dav_engine.proofs.Following.{ran_at, ran_bind, follows_ask, follows_done}
+use Rattle.dav_engine.proofs.Following.{ran_bind, follows_ask, follows_done}
 use Rattle.dav_engine.proofs.PartLemmas.{Gave, Stopped}
 use Rattle.dav_engine.proofs.GuardLemmas.{follows_ok, follows_fails}
 use Rattle.dav_engine.proofs.TellLemmas.{Told, more_and_more, nothing_told, same_writer}

@@ -1,6 +1,6 @@
 -- A multistatus that is handed on in parts: first without responses, and then its responses, one after another, as they are made
 -- (RFC 4918, section 13).
-use Rattle.std.specs.Prelude.{◌≡◌, ◌≢◌, List, [], ◌∷◌, Option, Some, None, option_map, Result, Ok, Err}
+use Rattle.std.specs.Prelude.{◌≡◌, List, [], ◌∷◌, Option, Some, None, option_map, Result, Ok, Err}
 use Rattle.dav_core.specs.declared.errors.DavError.{DavError}
 use Rattle.dav_core.specs.Asking.{StoreState}
 use Rattle.dav_core.specs.Element.{ElementTree, with_child, with_children}

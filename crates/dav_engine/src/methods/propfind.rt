@@ -198,7 +198,9 @@ fn with_tree(told: Reply, tree: Gathered) -> Reply
     ensures { (root : ElementTree) → tree ≡ Some root → result ≡ record told { body = Tree root } }
 {
     let Reply {
-        status, headers, ..
+        status,
+        headers,
+        ..
     } = told;
     let body = match tree.into_tree() {
         Some(root) => ReplyBody::Tree(root),
