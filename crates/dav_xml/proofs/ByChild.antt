@@ -1,0 +1,32 @@
+-- A document of a root with children, by its parts.
+use Rattle.std.proofs.Common.{◌≡◌, ℕ, true, List, [], ◌∷◌, ◌++◌, Option, None, map, refl, sym, ap, ◌∙◌, append_assoc}
+use Rattle.std.specs.List.{concat}
+use Rattle.dav_core.specs.Element.{ElementTree, element, is_element, text, tree_list, trees, tree_then, with_children}
+use Rattle.dav_xml.specs.Token.{closes, opens}
+use Rattle.dav_xml.specs.Spelling.{spelling, spellings}
+use Rattle.dav_xml.specs.Flat.{flat, flats, tree_spelling}
+use Rattle.dav_xml.specs.Scopes.{Scope}
+use Rattle.dav_xml.specs.Written.{declaration, document_of, or_empty, place_of, written, written_after}
+use Rattle.dav_xml.specs.ByChild.{DocumentIsOfChildren, child_of, closing_of, opening_of, root_place, written_name}
+use Rattle.dav_xml.proofs.Spellings.{children_spelled, each, element_spelled, written_each}
+
+none_spelled : spellings [] ≡ []
+unfolding spellings
+none_spelled = refl
+
+-- children one by one
+each_spelled : (scope : Scope) (ts : List ElementTree) → spellings (flats (trees (each scope (trees ts)))) ≡ concat (map (λ t. tree_spelling (written scope t)) ts)
+each_spelled scope [] = none_spelled
+each_spelled scope (t ∷ ts) =
+    children_spelled (written scope t) (trees (each scope (trees ts))) ∙ ap (λ (bs : List ℕ). tree_spelling (written scope t) ++ bs) (each_spelled scope ts)
+
+pub document_is_of_children : DocumentIsOfChildren
+document_is_of_children (text bytes) t ts e = cc
+document_is_of_children (element name prefix namespace attributes children) t ts e =
+    let root : ElementTree = element name prefix namespace attributes children in
+    let scope : Scope = (root_place root).1 in
+    let before : List ℕ = spelling (opens (written_name root) (root_place root).0) in
+    ap (λ (us : List ElementTree). declaration ++ spellings (flat (element (written_name root) None None (root_place root).0 (trees us)))) (written_each scope [] (trees (t ∷ ts)))
+    ∙ ap (λ (bs : List ℕ). declaration ++ bs) (element_spelled (written_name root) None None (root_place root).0 (written scope t) (trees (each scope (trees ts))))
+    ∙ ap (λ (bs : List ℕ). declaration ++ (before ++ (bs ++ closing_of root))) (each_spelled scope (t ∷ ts))
+    ∙ sym (append_assoc declaration before (concat (map (child_of root) (t ∷ ts)) ++ closing_of root))
