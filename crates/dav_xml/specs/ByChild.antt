@@ -2,7 +2,7 @@
 -- 1.0, sections 2.1 and 3.1).
 use Rattle.std.specs.Prelude.{◌≡◌, ℕ, true, List, [], ◌∷◌, ◌++◌, map}
 use Rattle.std.specs.List.{concat}
-use Rattle.dav_core.specs.Element.{ElementTree, attributes_of, is_element, name_of, namespace_of, prefix_of, with_children}
+use Rattle.dav_core.specs.Element.{ElementTree, attributes_of, children_of, is_element, name_of, namespace_of, prefix_of, with_children}
 use Rattle.dav_xml.specs.Flat.{tree_spelling}
 use Rattle.dav_xml.specs.Scopes.{Scope}
 use Rattle.dav_xml.specs.Spelling.{spelling}
@@ -24,6 +24,10 @@ opening_of root = declaration ++ spelling (opens (written_name root) (root_place
 -- a child as it is written within a root, with the declarations that it needs there
 abbrev pub child_of : ElementTree → ElementTree → List ℕ
 child_of root child = tree_spelling (written (root_place root).1 child)
+
+-- what stands between the tags of a root: its children, in order (XML 1.0, section 3.1, [43] content)
+abbrev pub content_of : ElementTree → List ℕ
+content_of root = concat (map (child_of root) (children_of root))
 
 -- what stands after the children of a root: its end tag (XML 1.0, section 3.1, [42] ETag)
 abbrev pub closing_of : ElementTree → List ℕ

@@ -1,12 +1,12 @@
 //! A document that is written child by child, so that no more of it than one child is a tree at a time.
 ghost use Rattle.std.specs.Prelude.{◌≡◌, ◌++◌, map, IfOk, OnOk};
 ghost use Rattle.dav_core.specs.ElementView.{attribute_bytes};
-ghost use Rattle.dav_xml.specs.ByChild.{child_of, closing_of, opening_of, root_place, written_name};
+ghost use Rattle.dav_xml.specs.ByChild.{child_of, closing_of, content_of, opening_of, root_place, written_name};
 ghost use Rattle.dav_xml.specs.Scopes.{pair_bytes};
 ghost use Rattle.dav_xml.specs.Spelling.{spelling};
 ghost use Rattle.dav_xml.specs.Token.{opens};
 
-use crate::writing::{push_begin, push_declaration, push_element, push_end};
+use crate::writing::{push_begin, push_children, push_declaration, push_element, push_end};
 use crate::written::{namespace_of, place_of, prefix_of, scope_of};
 use dav_core::element::Element;
 use std::alloc::{AllocError, Global};
@@ -87,6 +87,16 @@ pub fn push_child(
 {
     let scope = scope_within(alloc, root)?;
     push_element(alloc, out, &scope, child)
+}
+
+/// Adds what stands in a document between the tags of its root: the root's children, in order, with the declarations of namespaces
+/// that they need there (XML 1.0, section 3.1). `Err` where memory runs out.
+pub fn push_content(alloc: Global, out: &mut Vec<u8>, root: &Element) -> Result<(), AllocError>
+    ensures { OnOk result (out.new.items ≡ out.old.items ++ content_of root.now) }
+{
+    let scope = scope_within(alloc, root)?;
+    push_children(alloc, out, &scope, &root.children)?;
+    Ok(())
 }
 
 /// Adds what stands in a document after the children of its root: the root's end tag (XML 1.0, section 3.1). `Err` where memory

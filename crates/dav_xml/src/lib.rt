@@ -19,7 +19,7 @@ mod token;
 mod writing;
 mod written;
 
-pub use by_child::{push_child, push_closing, push_opening};
+pub use by_child::{push_child, push_closing, push_content, push_opening};
 pub use error::{Fault, XmlError};
 pub use front::is_legal;
 pub use namespaces::read;

@@ -158,8 +158,9 @@ pub fn push_element<'e>(
     Ok(())
 }
 
+/// Adds trees one after another, with their names as they are written in a scope. `Err` where memory runs out.
 #[cycle(writes)]
-fn push_children<'e>(
+pub fn push_children<'e>(
     alloc: Global,
     out: &mut Vec<u8>,
     scope: &[(&'e [u8], &'e str)],
