@@ -1,16 +1,16 @@
 -- A document of a root with children, by its parts.
-use Rattle.std.proofs.Common.{◌≡◌, ℕ, true, List, [], ◌∷◌, ◌++◌, Option, None, map, refl, sym, ap, ◌∙◌, append_assoc}
+use Rattle.std.proofs.Common.{◌≡◌, ℕ, List, [], ◌∷◌, ◌++◌, Option, None, map, refl, sym, ap, ◌∙◌, append_assoc}
 use Rattle.std.specs.List.{concat}
-use Rattle.dav_core.specs.Element.{ElementTree, children_of, element, is_element, text, tree_list, trees, tree_then, with_children}
+use Rattle.dav_core.specs.Element.{ElementTree, children_of, element, text, trees}
 use Rattle.dav_core.specs.ElementView.{node_tree}
 use Rattle.dav_core.specs.declared.element.XmlNode.{XmlNode}
 use Rattle.dav_core.proofs.ElementLemmas.{tree_list_trees}
-use Rattle.dav_xml.specs.Token.{closes, opens}
+use Rattle.dav_xml.specs.Token.{opens}
 use Rattle.dav_xml.specs.Spelling.{spelling, spellings}
 use Rattle.dav_xml.specs.Flat.{flat, flats, tree_spelling}
 use Rattle.dav_xml.specs.Scopes.{Scope}
-use Rattle.dav_xml.specs.Written.{declaration, document_of, or_empty, place_of, written, written_after}
-use Rattle.dav_xml.specs.ByChild.{DocumentIsOfChildren, child_of, closing_of, content_of, opening_of, root_place, written_name}
+use Rattle.dav_xml.specs.Written.{declaration, written, written_after}
+use Rattle.dav_xml.specs.ByChild.{DocumentIsOfChildren, child_of, closing_of, content_of, root_place, written_name}
 use Rattle.dav_xml.proofs.Spellings.{children_spelled, each, element_spelled, written_each}
 
 none_spelled : spellings [] ≡ []

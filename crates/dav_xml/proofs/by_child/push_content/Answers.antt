@@ -1,4 +1,4 @@
-use Rattle.std.proofs.Common.{◌≡◌, ◌++◌, ◌∙◌, [], ap, map, sym}
+use Rattle.std.proofs.Common.{◌++◌, ◌∙◌, [], ap, map}
 use Rattle.dav_core.specs.Element.{trees}
 use Rattle.dav_core.specs.ElementView.{node_tree}
 use Rattle.dav_xml.specs.Scopes.{pair_bytes}

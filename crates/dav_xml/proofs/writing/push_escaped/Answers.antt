@@ -1,4 +1,4 @@
-use Rattle.std.proofs.Common.{◌≡◌, ◌≤◌, ◌++◌, arith, ap, sym, ◌∙◌}
+use Rattle.std.proofs.Common.{◌++◌, arith, ap, ◌∙◌}
 use Rattle.std.proofs.lemmas.Slice.{between_is}
 use Rattle.dav_xml.specs.Spelling.{escaped}
 use Rattle.dav_xml.proofs.Escaping.{referred, stays}
