@@ -2,6 +2,7 @@
 //!
 //! A row adds nothing to the proof of its test; a line of code adds seconds.
 mod bodies;
+mod by_child;
 mod characters;
 mod errors;
 mod grammar;

@@ -10,6 +10,8 @@ pub mod Escapes
 pub mod Spelled
 pub mod Nested
 pub mod Spellings
+pub mod Escaping
+pub mod ByChild
 pub mod Kept
 pub mod Legal
 pub mod LegalTrees

@@ -63,7 +63,7 @@ abbrev pub each : Scope → ElementTrees → List ElementTree
 each scope no_trees = []
 each scope (tree_then t ts) = written scope t ∷ each scope ts
 
-written_each : (scope : Scope) (made : List ElementTree) (ts : ElementTrees) → written_after scope made ts ≡ made ++ each scope ts
+pub written_each : (scope : Scope) (made : List ElementTree) (ts : ElementTrees) → written_after scope made ts ≡ made ++ each scope ts
 written_each scope made no_trees = sym (append-nil made)
 written_each scope made (tree_then t ts) = written_each scope (made ++ written scope t ∷ []) ts ∙ append_assoc made (written scope t ∷ []) (each scope ts)
 

@@ -14,6 +14,7 @@ pub mod Namespaces
 pub mod KeptView
 pub mod Flat
 pub mod Written
+pub mod ByChild
 pub mod PlaceView
 pub mod Legal
 pub mod Expanded

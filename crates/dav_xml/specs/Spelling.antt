@@ -1,5 +1,5 @@
 -- How pieces of markup are written.
-use Rattle.std.specs.Prelude.{◌≡◌, ℕ, Bool, true, false, ◌&&◌, ◌==◌, if◌then◌else◌, List, [], ◌∷◌, ◌++◌, length, codes}
+use Rattle.std.specs.Prelude.{◌≡◌, ℕ, Bool, true, false, ◌&&◌, ◌==◌, if◌then◌else◌, List, [], ◌∷◌, ◌++◌, length, codes, Option, None, Some}
 use Rattle.std.specs.List.{list_all, AllByRecursion}
 use Rattle.std.specs.Str.Lossy.{utf8_valid_len}
 use Rattle.dav_xml.specs.Bytes.{is_space, is_name_start, is_name_byte}
@@ -17,6 +17,11 @@ escaped_byte attribute b =
     else if attribute && b == 10 then codes "&#10;"
     else if attribute && b == 9 then codes "&#9;"
     else b ∷ []
+
+-- the reference that stands for a byte, or the byte itself where none does
+abbrev pub or_byte : ℕ → Option (List ℕ) → List ℕ
+or_byte b None = b ∷ []
+or_byte b (Some reference) = reference
 
 -- a text or the value of an attribute as it is written, with references (`escaped_byte`)
 unfoldable pub escaped : Bool → List ℕ → List ℕ

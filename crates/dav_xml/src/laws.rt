@@ -13,6 +13,7 @@ ghost use Rattle.dav_xml.specs.Scopes.{Scope, uri_of};
 ghost use Rattle.dav_xml.specs.Expanded.{AllMean, IsExpanded, IsFew, IsPlain, Means};
 ghost use Rattle.dav_xml.specs.Legal.{HasLegal, HasLegalTexts};
 ghost use Rattle.dav_xml.specs.Prefixed.{OthersAreKept, PrefixedIsSendable};
+ghost use Rattle.dav_xml.specs.ByChild.{DocumentIsOfChildren};
 ghost use Rattle.dav_xml.specs.Sendable.{ExpandedIsSendable, ReadIsSendable, SendableIsRead};
 
 /// Pieces of markup that are written are read again.
@@ -48,6 +49,13 @@ pub fn written_is_read_raw()
     ensures { (t : ElementTree) → IsRaw 64 t → HasLegal t
         → length (declaration ++ spellings (flat t)) ≤ 0x10_0000
         → raw_document (declaration ++ spellings (flat t)) ≡ Ok t }
+{}
+
+/// The document of a root with children is what stands before them, each of them in order, and what stands after them; so it may be
+/// written child by child.
+#[tactic(auto, using(crate::proofs::ByChild::document_is_of_children))]
+pub fn document_is_of_children()
+    ensures { DocumentIsOfChildren }
 {}
 
 /// What is written of a tree of at most 64 levels is read again as the tree that it means, where each element has at most 256

@@ -3,6 +3,7 @@
 //! A text is UTF-8, without a document type. Blanks between elements are texts of the tree too.
 #![tactic(auto)]
 
+mod by_child;
 mod bytes;
 mod error;
 mod front;
@@ -18,6 +19,7 @@ mod token;
 mod writing;
 mod written;
 
+pub use by_child::{push_child, push_closing, push_content, push_opening};
 pub use error::{Fault, XmlError};
 pub use front::is_legal;
 pub use namespaces::read;

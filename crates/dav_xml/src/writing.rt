@@ -1,5 +1,5 @@
 //! Element trees as bytes, with names as they are written.
-ghost use Rattle.std.specs.Prelude.{◌≡◌, ◌++◌, ◌∷◌, [], map, OnOk, IfOk, if◌then◌else◌};
+ghost use Rattle.std.specs.Prelude.{◌≡◌, ◌++◌, [], map, option_map, OnOk, IfOk, if◌then◌else◌};
 ghost use Rattle.dav_core.specs.ElementView.{attribute_bytes};
 ghost use Rattle.dav_xml.specs.Token.{opens, empty, closes};
 ghost use Rattle.dav_core.specs.Element.{trees};
@@ -7,43 +7,53 @@ ghost use Rattle.dav_core.specs.ElementView.{node_tree};
 ghost use Rattle.dav_xml.specs.Spelling as spec;
 ghost use Rattle.dav_xml.specs.Flat.{flats, tree_spelling};
 ghost use Rattle.dav_xml.specs.Scopes.{pair_bytes};
-ghost use Rattle.dav_xml.specs.Written.{document_of, name_with, written, written_after};
+ghost use Rattle.dav_xml.specs.Written.{declaration, document_of, name_with, written, written_after};
 
 use crate::written::{is_placed, namespace_of, place_of, prefix_of};
 use dav_core::element::{Element, XmlNode};
 use std::alloc::{AllocError, Global};
 
-fn push_byte(out: &mut Vec<u8>, byte: u8, attribute: bool) -> Result<(), AllocError>
-    ensures { OnOk result (out.new.items ≡ out.old.items ++ spec.escaped_byte attribute byte) }
+// The reference that stands for a byte of a text or of a value, where one does; most bytes are past the last that has one.
+fn reference(byte: u8, attribute: bool) -> Option<&'static str>
+    ensures { spec.or_byte byte (option_map (λ r. r.now) result)
+        ≡ spec.escaped_byte attribute byte }
 {
-    if byte == b'&' {
-        out.extend_from_slice(b"&amp;")
+    if byte > b'>' {
+        None
+    } else if byte == b'&' {
+        Some("&amp;")
     } else if byte == b'<' {
-        out.extend_from_slice(b"&lt;")
+        Some("&lt;")
     } else if byte == b'>' {
-        out.extend_from_slice(b"&gt;")
+        Some("&gt;")
     } else if byte == b'"' {
-        out.extend_from_slice(b"&quot;")
+        Some("&quot;")
     } else if byte == b'\r' {
-        out.extend_from_slice(b"&#13;")
+        Some("&#13;")
     } else if attribute && byte == b'\n' {
-        out.extend_from_slice(b"&#10;")
+        Some("&#10;")
     } else if attribute && byte == b'\t' {
-        out.extend_from_slice(b"&#9;")
+        Some("&#9;")
     } else {
-        Ok(out.push(byte)?)
+        None
     }
 }
 
+// Adds a text or a value with references; what lies between two of them as one slice.
 #[tactic(auto, unfolding(crate::specs::Spelling::escaped))]
 fn push_escaped(out: &mut Vec<u8>, text: &str, attribute: bool) -> Result<(), AllocError>
     ensures { OnOk result (out.new.items ≡ out.old.items ++ spec.escaped attribute text.now) }
 {
     let bytes = text.as_bytes();
-    for byte in bytes {
-        push_byte(out, *byte, attribute)?;
+    let mut from = 0;
+    for at in 0..bytes.len() {
+        if let Some(reference) = reference(bytes[at], attribute) {
+            out.extend_from_slice(&bytes[from..at])?;
+            out.extend_from_slice(reference.as_bytes())?;
+            from = at + 1;
+        }
     }
-    Ok(())
+    out.extend_from_slice(&bytes[from..])
 }
 
 fn push_attribute(out: &mut Vec<u8>, attribute: &(String, String)) -> Result<(), AllocError>
@@ -79,8 +89,8 @@ fn push_name(out: &mut Vec<u8>, prefix: &str, name: &str) -> Result<(), AllocErr
     out.extend_from_slice(name.as_bytes())
 }
 
-// Adds the tag with which an element begins; of one without children it is the whole element.
-fn push_begin(
+/// Adds the tag with which an element begins; of one without children it is the whole element. `Err` where memory runs out.
+pub fn push_begin(
     out: &mut Vec<u8>,
     prefix: &str,
     name: &str,
@@ -101,8 +111,13 @@ fn push_begin(
     }
 }
 
-// Adds the tag with which an element ends that has children.
-fn push_end(out: &mut Vec<u8>, prefix: &str, name: &str, is_empty: bool) -> Result<(), AllocError>
+/// Adds the tag with which an element ends that has children. `Err` where memory runs out.
+pub fn push_end(
+    out: &mut Vec<u8>,
+    prefix: &str,
+    name: &str,
+    is_empty: bool,
+) -> Result<(), AllocError>
     ensures { OnOk result (out.new.items ≡ out.old.items
         ++ (if is_empty then [] else spec.spelling (closes (name_with prefix.now name.now)))) }
 {
@@ -114,9 +129,9 @@ fn push_end(out: &mut Vec<u8>, prefix: &str, name: &str, is_empty: bool) -> Resu
     Ok(out.push(b'>')?)
 }
 
-// Adds a tree, with its names as they are written in a scope.
+/// Adds a tree, with its names as they are written in a scope. `Err` where memory runs out.
 #[cycle(writes)]
-fn push_element<'e>(
+pub fn push_element<'e>(
     alloc: Global,
     out: &mut Vec<u8>,
     scope: &[(&'e [u8], &'e str)],
@@ -143,8 +158,9 @@ fn push_element<'e>(
     Ok(())
 }
 
+/// Adds trees one after another, with their names as they are written in a scope. `Err` where memory runs out.
 #[cycle(writes)]
-fn push_children<'e>(
+pub fn push_children<'e>(
     alloc: Global,
     out: &mut Vec<u8>,
     scope: &[(&'e [u8], &'e str)],
@@ -176,6 +192,13 @@ fn push_node<'e>(
     }
 }
 
+/// Adds the declaration with which a document begins (XML 1.0, section 2.8). `Err` where memory runs out.
+pub fn push_declaration(out: &mut Vec<u8>) -> Result<(), AllocError>
+    ensures { OnOk result (out.new.items ≡ out.old.items ++ declaration) }
+{
+    out.extend_from_slice(b"<?xml version=\"1.0\" encoding=\"utf-8\"?>\n")
+}
+
 /// The document of an element tree, in UTF-8 (XML 1.0; Namespaces in XML 1.0). `Err` where memory runs out.
 ///
 /// The prefix of an element is declared on it where it has another namespace there. A prefix without a namespace and without a
@@ -184,7 +207,7 @@ pub fn write(alloc: Global, tree: &Element) -> Result<Vec<u8>, AllocError>
     ensures { IfOk result (λ v. v.items ≡ document_of tree.now) }
 {
     let mut out = Vec::new(alloc);
-    out.extend_from_slice(b"<?xml version=\"1.0\" encoding=\"utf-8\"?>\n")?;
+    push_declaration(&mut out)?;
     push_element(alloc, &mut out, &[], tree)?;
     Ok(out)
 }

@@ -161,14 +161,21 @@ fn copied(
     Ok(copies)
 }
 
+// Whether what was found for a prefix is that namespace; empty for none.
+fn has_uri(found: Option<&str>, uri: &str) -> bool
+    ensures { result ≡ spec.has_uri (option_map (λ u. u.now) found.entry) uri.now }
+{
+    match found {
+        Some(found) => found == uri,
+        None => uri.is_empty(),
+    }
+}
+
 // Whether a prefix has that namespace; empty for none.
 fn is_in_scope(scope: &[(&[u8], &str)], prefix: &str, uri: &str) -> bool
     ensures { result ≡ spec.is_in_scope (map pair_bytes scope.now) prefix.now uri.now }
 {
-    match uri_of(prefix.as_bytes(), scope) {
-        Some(found) => found == uri,
-        None => uri.is_empty(),
-    }
+    has_uri(uri_of(prefix.as_bytes(), scope), uri)
 }
 
 fn declared_too<'e>(
@@ -222,6 +229,25 @@ pub fn place_of<'e>(
     placed(alloc, inner, prefix, uri, attributes)
 }
 
+/// What is declared within an element of this name and these attributes, in a scope. `Err` where memory runs out.
+pub fn scope_of<'e>(
+    alloc: Global,
+    scope: &[(&'e [u8], &'e str)],
+    prefix: &'e str,
+    namespace: Option<&'e str>,
+    attributes: &'e [(String, String)],
+) -> Result<Vec<(&'e [u8], &'e str)>, AllocError>
+    ensures { IfOk result (λ v. map pair_bytes v.items ≡ (spec.place_of (map pair_bytes scope.now)
+        prefix.now (option_map (λ u. u.now) namespace.entry) (map attribute_bytes attributes.now)).1) }
+{
+    let mut inner = opened(alloc, scope, attributes)?;
+    let uri = wanted(&inner, prefix, namespace);
+    if !is_in_scope(&inner, prefix, uri) {
+        inner.push((prefix.as_bytes(), uri))?;
+    }
+    Ok(inner)
+}
+
 /// The prefix of a name; empty for none.
 pub fn prefix_of(prefix: &Option<String>) -> &str
     ensures { result.now ≡ spec.or_empty (option_map string_bytes prefix.now) }
@@ -248,5 +274,10 @@ pub fn is_placed(scope: &[(&[u8], &str)], prefix: &str, namespace: Option<&str>)
         (spec.wanted (map pair_bytes scope.now) prefix.now
         (option_map (λ u. u.now) namespace.entry)) }
 {
-    is_in_scope(scope, prefix, wanted(scope, prefix, namespace))
+    let found = uri_of(prefix.as_bytes(), scope);
+    match namespace {
+        Some(uri) => has_uri(found, uri),
+        None if prefix.is_empty() => has_uri(found, ""),
+        None => found.is_some(),
+    }
 }
