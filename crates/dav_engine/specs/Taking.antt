@@ -5,9 +5,9 @@ use Rattle.dav_core.specs.declared.errors.DavError.{DavError}
 use Rattle.dav_core.specs.Asking.{StoreState}
 use Rattle.dav_core.specs.Element.{ElementTree, with_child, with_children}
 use Rattle.dav_engine.specs.declared.reply.ReplyBody.TheVariants as reply
-use Rattle.dav_engine.specs.Follows.{as_is, FollowsWithLocks}
+use Rattle.dav_engine.specs.Follows.{as_is, FollowsWithLocks, Serves}
 use Rattle.dav_engine.specs.Method.{MethodPlan}
-use Rattle.dav_engine.specs.Plan.{Locks}
+use Rattle.dav_engine.specs.Plan.{Locks, ServerState}
 use Rattle.dav_engine.specs.Reply.{Reply}
 
 -- What takes responses, after it took these, in order.
@@ -33,6 +33,10 @@ HandsOn opened taken to _ _ = ⊥
 abbrev pub FollowsHandingOn : {T : Type 0} → (opened taken : T → ElementTree → T) → T → Locks → MethodPlan Reply → StoreState → Result (Reply × Option T) DavError → StoreState → Type 0
 FollowsHandingOn opened taken to locks plan old result new =
     (whole : Result Reply DavError) × FollowsWithLocks locks as_is plan old whole new × HandsOn opened taken to whole result
+
+-- A request was answered by a plan of this kind, on the state of a server, and its outcome is told so.
+abbrev pub ServesHandingOn : {T : Type 0} → (opened taken : T → ElementTree → T) → T → (MethodPlan Reply → Type 0) → ServerState → Result (Reply × Option T) DavError → ServerState → Type 0
+ServesHandingOn opened taken to kind old result new = (whole : Result Reply DavError) × Serves kind old whole new × HandsOn opened taken to whole result
 
 -- The tree of a multistatus, once it was opened: without responses.
 abbrev pub opened_tree : Option ElementTree → ElementTree → Option ElementTree

@@ -19,6 +19,7 @@ pub mod request;
 
 pub use davinner::{Backend, Caller, DavInner};
 pub use methods::copy_move::destination_in;
+pub use methods::propfind::gathered;
 pub use properties::takes::{Gathered, Takes};
 pub use reply::{Reply, ReplyBody};
 pub use request::{Body, DavRequest};

@@ -1,5 +1,5 @@
 //! PROPFIND (RFC 4918, section 9.1).
-ghost use Rattle.std.specs.Prelude.{◌≡◌, ◌≢◌, ◌≤◌, ◌++◌, ◌∷◌, [], codes, IfOk, None, Option, Result, Some};
+ghost use Rattle.std.specs.Prelude.{◌≡◌, ◌≢◌, ◌≤◌, ◌++◌, ◌∷◌, [], codes, IfOk, None, Some};
 ghost use Rattle.dav_core.specs.Path.{star};
 ghost use Rattle.dav_core.specs.World.{last_moment};
 ghost use Rattle.http_header.specs.HeaderMap.{insert};
@@ -13,9 +13,8 @@ ghost use Rattle.dav_engine.specs.Follows.{as_is};
 ghost use Rattle.dav_engine.specs.Multistatus.{dav_element, declares_dav};
 ghost use Rattle.dav_engine.specs.Propfind as spec;
 ghost use Rattle.dav_engine.specs.PropWriter.{hands_on, started, Tells};
-ghost use Rattle.dav_engine.specs.Taking.{FollowsHandingOn, HandsOn, IsHandedOn, grown_tree, opened_tree};
+ghost use Rattle.dav_engine.specs.Taking.{FollowsHandingOn, IsHandedOn, ServesHandingOn, grown_tree, opened_tree};
 ghost use Rattle.dav_engine.specs.declared.reply.ReplyBody.TheVariants.{Nothing, Tree};
-ghost use Rattle.dav_core.specs.declared.errors.DavError.{DavError as Error};
 ghost use Rattle.dav_core.specs.Element.{ElementTree};
 
 mod headers;
@@ -213,8 +212,9 @@ fn with_tree(told: Reply, tree: Gathered) -> Reply
     }
 }
 
-// The whole reply, whose multistatus was handed on to a tree.
-fn gathered(told: Reply, tree: Option<Gathered>) -> Reply
+/// The whole reply to a request, of which this was told, and of which the multistatus was handed on to a tree, if it was. Allocates
+/// nothing.
+pub fn gathered(told: Reply, tree: Option<Gathered>) -> Reply
     ensures { (whole : Reply) → IsHandedOn opened_tree grown_tree None whole told tree
         → result ≡ whole }
 {
@@ -266,9 +266,9 @@ impl<'a, 'b, 'c, F: DavFileSystem, L: DavLockSystem> DavInner<'a, 'b, 'c, F, L> 
     ) -> DavResult<(Reply, Option<T>)>
         requires path { request.now.path.bytes ≢ star }
         ensures lent { SameLocksBorrowed self.old self.new }
-        ensures serves { (whole : Result Reply Error)
-            × ServesFrom (PropfindOf request.now body.now) self.old whole self.new
-            × HandsOn T.opened T.taken to whole result }
+        ensures serves { ServesHandingOn T.opened T.taken to
+            (PropfindOf request.now body.now self.old.caller.now)
+            self.old.backend.now.state result self.new.backend.now.state }
     {
         let headers = FindHeaders::decode(alloc, &request.headers)?;
         let search = Search {
