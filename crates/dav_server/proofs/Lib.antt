@@ -8,6 +8,7 @@ pub mod RunLemmas
 pub mod SomePlan
 pub mod RunLaws
 pub mod StepLemmas
+pub mod HandingLemmas
 pub mod StoredLemmas
 pub mod GetLemmas
 pub mod PrefixLemmas

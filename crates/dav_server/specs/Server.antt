@@ -1,7 +1,9 @@
 -- Servers as contracts see them, and what they answer.
 use Rattle.std.specs.Prelude.{◌≡◌, ◌++◌, List, Option, [], ◌∷◌, map, None}
 use Rattle.dav_engine.specs.Plan.{ServerState}
+use Rattle.dav_core.specs.Element.{ElementTree}
 use Rattle.dav_engine.specs.Reply.{Reply}
+use Rattle.dav_engine.specs.Taking.{IsHandedOn}
 use Rattle.dav_server.specs.Leaving.{SafeLeaves, GrantsNothing}
 use Rattle.dav_server.specs.Machine.{Exchange, Settings, Steps, StepCut}
 use Rattle.dav_server.specs.Run.{Turn, begun, Runs}
@@ -20,6 +22,13 @@ pub record HandlerView (F L : Type 0) : Type 0 where
 -- the reply to a request and the server that is left are those of a step of the machine
 abbrev pub Answers : Server → Exchange → Reply → Server → Type 0
 Answers old x reply new = Steps old.settings x old.state.store old.state.locks reply new.state.store new.state.locks
+
+-- The whole reply to a request and the server that is left are those of a step of the machine, and the reply is told so: as it is, or
+-- without its multistatus, which was handed on to `to` in parts (RFC 4918, section 13).
+pub record AnswersInParts {T : Type 0} (opened taken : T → ElementTree → T) (to : T) (old : Server) (x : Exchange) (told : Reply) (after : Option T) (new : Server) : Type 0 where
+  pub whole : Reply
+  pub answers : Answers old x whole new
+  pub handed : IsHandedOn opened taken to whole told after
 
 -- What a request leaves in which memory ran out: each call of the store that was made is whole. A request of a safe method has changed
 -- nothing; nor has a LOCK that asks for a new lock, where no lock has the token that it hands in (RFC 9110, section 9.2.1; RFC 4918,

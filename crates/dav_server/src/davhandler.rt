@@ -1,10 +1,12 @@
 //! The handler: from a request to its reply (RFC 9110; RFC 4918).
-ghost use Rattle.std.specs.Prelude.{◌≡◌, ◌≢◌, ◌≤◌, ◌↔◌, ◌⊎◌, [], false, IsTrue, Ok, IfOk, OnOk, OnErr};
+ghost use Rattle.std.specs.Prelude.{◌≡◌, ◌≢◌, ◌≤◌, ◌↔◌, ◌⊎◌, [], false, IsTrue, Ok, None, IfOk, OnOk, OnErr};
+ghost use Rattle.std.specs.Bool.{Decides};
 ghost use Rattle.dav_core.specs.Method.{Has};
 ghost use Rattle.dav_core.specs.Path.{star};
 ghost use Rattle.std.specs.Option.{option_map, option_copied};
 ghost use Rattle.dav_core.specs.declared.errors.DavError.TheVariants.{Memory};
 ghost use Rattle.dav_engine.specs.Follows.{Serves};
+ghost use Rattle.dav_engine.specs.Taking.{ServesHandingOn};
 ghost use Rattle.dav_core.specs.World.{last_moment};
 ghost use Rattle.dav_engine.specs.OnHandler.{MkcolOf, DeleteOf, PutOf, CopyMoveOf, OptionsOf, LockOf, UnlockOf};
 ghost use Rattle.dav_engine.specs.ConditionView.{locks_in};
@@ -15,7 +17,7 @@ ghost use Rattle.dav_server.specs.HrefLaws.{ReplyLeadsBack, ReplyIsWhole};
 ghost use Rattle.dav_server.specs.Leaving.{SameContent, SafeLeaves, CreateOnlyLeaves, RefusedStatusLeaves, HasLockBody, AsksForLock};
 ghost use Rattle.dav_server.specs.Machine.{caller, PlanOf, Means, MeansOf};
 ghost use Rattle.dav_server.specs.Method.{IsServed};
-ghost use Rattle.dav_server.specs.Server.{Answers, StopsIn};
+ghost use Rattle.dav_server.specs.Server.{Answers, AnswersInParts, StopsIn};
 ghost use Rattle.dav_server.specs.Headers.{headers_of};
 ghost use Rattle.dav_core.specs.Target.{Reads};
 ghost use Rattle.dav_server.specs.Setup.{IsPrefix};
@@ -48,7 +50,7 @@ use dav_core::errors::{DavError, DavResult, NoMemory, ParseError};
 use dav_core::fs::DavFileSystem;
 use dav_core::ls::DavLockSystem;
 use dav_core::method::{DavMethod, DavMethodSet};
-use dav_engine::{Backend, Body, Caller, DavInner, DavRequest, Reply};
+use dav_engine::{Backend, Body, Caller, DavInner, DavRequest, Gathered, Reply, Takes, gathered};
 use http::StatusCode;
 use std::alloc::Global;
 use std::marker::Model;
@@ -223,7 +225,14 @@ macro_rules! inner {
     };
 }
 
-// Hands a request to its method. Only OPTIONS is for the server itself.
+// Whether a method is PROPFIND.
+fn is_propfind(method: DavMethod) -> bool
+    ensures { Decides result (method ≡ DavMethod.PropFind) }
+{
+    matches!(method, DavMethod::PropFind)
+}
+
+// Hands a request to its method, which isn't PROPFIND. Only OPTIONS is for the server itself.
 fn serve<F: DavFileSystem, L: DavLockSystem>(
     handler: &mut DavHandler<F, L>,
     alloc: Global,
@@ -233,6 +242,7 @@ fn serve<F: DavFileSystem, L: DavLockSystem>(
 ) -> DavResult<Reply>
     requires path { request.now.method ≢ DavMethod.Options → request.now.path.bytes ≢ star }
     requires served { IsServed request.now.method }
+    requires other { request.now.method ≢ DavMethod.PropFind }
     ensures same { handler.new.server.settings ≡ handler.old.server.settings }
     ensures serves { Serves (PlanOf handler.old.server.settings.allowed request.now.headers
         request.now.path body.now (caller exchange.now) request.now.method)
@@ -253,25 +263,59 @@ fn serve<F: DavFileSystem, L: DavLockSystem>(
         DavMethod::Copy => inner!(handler, caller).handle_copymove(alloc, request, body),
         DavMethod::Move => inner!(handler, caller).handle_copymove(alloc, request, body),
         DavMethod::Options => inner!(handler, caller).handle_options(alloc, request, body),
-        DavMethod::PropFind => inner!(handler, caller).handle_propfind(alloc, request, body),
         DavMethod::PropPatch => inner!(handler, caller).handle_proppatch(alloc, request, body),
         DavMethod::Lock => inner!(handler, caller).handle_lock(alloc, request, body),
         DavMethod::Unlock => inner!(handler, caller).handle_unlock(alloc, request, body),
-        DavMethod::Report | DavMethod::MkCalendar | DavMethod::MkAddressbook => unreachable!(),
+        DavMethod::PropFind
+        | DavMethod::Report
+        | DavMethod::MkCalendar
+        | DavMethod::MkAddressbook => unreachable!(),
     }
 }
 
-// The outcome of a request whose method is known.
-fn answer_method<F: DavFileSystem, L: DavLockSystem>(
+// Hands a request to its method; a multistatus of properties is handed on to `to`.
+fn serve_to<F: DavFileSystem, L: DavLockSystem, T: Takes + Drop>(
+    handler: &mut DavHandler<F, L>,
+    alloc: Global,
+    request: &DavRequest,
+    body: &Body,
+    exchange: &Exchange<'_>,
+    to: T,
+) -> DavResult<(Reply, Option<T>)>
+    requires path { request.now.method ≢ DavMethod.Options → request.now.path.bytes ≢ star }
+    requires served { IsServed request.now.method }
+    ensures same { handler.new.server.settings ≡ handler.old.server.settings }
+    ensures serves { ServesHandingOn T.opened T.taken to
+        (PlanOf handler.old.server.settings.allowed request.now.headers
+        request.now.path body.now (caller exchange.now) request.now.method)
+        handler.old.server.state result handler.new.server.state }
+    ensures ungranted { IsErrOf result Memory
+        → request.now.method ≡ DavMethod.Lock → is_absent body.now ≡ false
+        → SameContent handler.old.server.state handler.new.server.state }
+{
+    if is_propfind(request.method) {
+        let caller = &caller_of(exchange);
+        return inner!(handler, caller).handle_propfind_to(alloc, request, body, to);
+    }
+    match serve(handler, alloc, request, body, exchange) {
+        Ok(reply) => Ok((reply, None)),
+        Err(error) => Err(error),
+    }
+}
+
+// The outcome of a request whose method is known; a multistatus of properties is handed on to `to`.
+fn answer_method<F: DavFileSystem, L: DavLockSystem, T: Takes + Drop>(
     handler: &mut DavHandler<F, L>,
     alloc: Global,
     view: &RequestView<'_>,
     method: DavMethod,
     exchange: &Exchange<'_>,
-) -> DavResult<Reply>
+    to: T,
+) -> DavResult<(Reply, Option<T>)>
     requires { IsServed method }
     ensures same { handler.new.server.settings ≡ handler.old.server.settings }
-    ensures serves { Serves (MeansOf handler.old.server.settings exchange.now view.now method)
+    ensures serves { ServesHandingOn T.opened T.taken to
+        (MeansOf handler.old.server.settings exchange.now view.now method)
         handler.old.server.state result handler.new.server.state }
     ensures ungranted { IsErrOf result Memory
         → method ≡ DavMethod.Lock → HasLockBody exchange.now
@@ -288,17 +332,19 @@ fn answer_method<F: DavFileSystem, L: DavLockSystem>(
         path,
         headers,
     };
-    serve(handler, alloc, &request, body.as_body(), exchange)
+    serve_to(handler, alloc, &request, body.as_body(), exchange, to)
 }
 
-// The outcome of a request, from the bytes of its head on.
-fn answer<F: DavFileSystem, L: DavLockSystem>(
+// The outcome of a request, from the bytes of its head on; a multistatus of properties is handed on to `to`.
+fn answer<F: DavFileSystem, L: DavLockSystem, T: Takes + Drop>(
     handler: &mut DavHandler<F, L>,
     alloc: Global,
     exchange: &Exchange<'_>,
-) -> DavResult<Reply>
+    to: T,
+) -> DavResult<(Reply, Option<T>)>
     ensures same { handler.new.server.settings ≡ handler.old.server.settings }
-    ensures serves { Serves (Means handler.old.server.settings exchange.now)
+    ensures serves { ServesHandingOn T.opened T.taken to
+        (Means handler.old.server.settings exchange.now)
         handler.old.server.state result handler.new.server.state }
     ensures ungranted { IsErrOf result Memory
         → AsksForLock exchange.now
@@ -309,7 +355,7 @@ fn answer<F: DavFileSystem, L: DavLockSystem>(
         Err(status) => return Err(DavError::Status(status)),
     };
     let method = method_of(view.method())?;
-    answer_method(handler, alloc, &view, method, exchange)
+    answer_method(handler, alloc, &view, method, exchange, to)
 }
 
 impl<F: DavFileSystem, L: DavLockSystem> DavHandler<F, L> {
@@ -364,9 +410,32 @@ impl<F: DavFileSystem, L: DavLockSystem> DavHandler<F, L> {
             ReplyIsWhole self.old.server exchange.now reply self.new.server) }
         ensures err { OnErr result (StopsIn self.old.server exchange.now self.new.server) }
     {
-        match answer(self, alloc, exchange) {
-            Ok(reply) => Ok(reply),
+        match answer(self, alloc, exchange, Gathered::new()) {
+            Ok((told, tree)) => Ok(gathered(told, tree)),
             Err(error) => refuse(alloc, error),
+        }
+    }
+
+    /// The same, but that the multistatus of a PROPFIND is handed on to `to` in parts: first without responses, and then response by
+    /// response, as they are made (RFC 4918, section 13). The reply is told without a body then, and what took the responses is given
+    /// back; `None` where nothing was handed on: the reply is whole.
+    ///
+    /// `NoMemory` as for `handle`, and where `to` has none: then some responses may have been taken.
+    pub fn handle_to<T: Takes + Drop>(
+        &mut self,
+        alloc: Global,
+        exchange: &Exchange<'_>,
+        to: T,
+    ) -> Result<(Reply, Option<T>), NoMemory>
+        ensures same { self.new.server.settings ≡ self.old.server.settings }
+        ensures ok { IfOk result (λ told. AnswersInParts T.opened T.taken to
+            self.old.server exchange.now told.0 told.1 self.new.server) }
+        ensures reading { SafeLeaves exchange.now self.old.server.state self.new.server.state }
+        ensures err { OnErr result (StopsIn self.old.server exchange.now self.new.server) }
+    {
+        match answer(self, alloc, exchange, to) {
+            Ok(told) => Ok(told),
+            Err(error) => refuse_whole(alloc, error),
         }
     }
 }
@@ -379,4 +448,12 @@ fn refuse(alloc: Global, error: DavError) -> Result<Reply, NoMemory>
         DavError::Memory => Err(NoMemory),
         other => Reply::of_error(alloc, other),
     }
+}
+
+// The same, of which nothing was handed on.
+fn refuse_whole<T>(alloc: Global, error: DavError) -> Result<(Reply, Option<T>), NoMemory>
+    ensures { IfOk result (λ told.
+        (told.0 ≡ error_reply error) × (error ≢ Memory) × (told.1 ≡ None)) }
+{
+    Ok((refuse(alloc, error)?, None))
 }

@@ -4,8 +4,8 @@ use super::*;
 use crate::rows::{NoRow, Player, play_rows};
 use bytes::Bytes;
 use dav_core::element::Element;
-use dav_engine::ReplyBody;
 use dav_engine::properties::prop_writer::PropWriter;
+use dav_engine::{Gathered, ReplyBody};
 use dav_store::memfs::MemFs;
 use dav_store::memls::MemLs;
 use http_header::HeaderMap;
@@ -37,8 +37,12 @@ fn property(alloc: Global, name: &str) -> Result<Element, NoMemory> {
     Ok(element)
 }
 
-// A writer for the element that a text names, which sends to a list.
-fn begun(alloc: Global, reply: &mut Reply, text: &'static str) -> Result<PropWriter, Fail> {
+// A writer for the element that a text names, which hands on to a tree.
+fn begun(
+    alloc: Global,
+    reply: &mut Reply,
+    text: &'static str,
+) -> Result<PropWriter<Gathered>, Fail> {
     let asked: EngineRequest = request_of(alloc, "PROPFIND /f")?;
     let mut names = text.split(' ');
     let element = names.next().ok_or(NoRow(text))?;
@@ -46,9 +50,15 @@ fn begun(alloc: Global, reply: &mut Reply, text: &'static str) -> Result<PropWri
     for name in names {
         properties.push(property(alloc, name)?)?;
     }
-    let mut writer = PropWriter::new(alloc, &asked.request, reply, element, properties, None)?;
-    writer.set_tx(Vec::new(alloc));
-    Ok(writer)
+    Ok(PropWriter::new(
+        alloc,
+        &asked.request,
+        reply,
+        element,
+        properties,
+        None,
+        Gathered::new(),
+    )?)
 }
 
 // One property under a status.
@@ -123,11 +133,11 @@ impl<F: DavFileSystem + Drop, L: DavLockSystem + Drop> Written<F, L> {
     fn write(
         &mut self,
         alloc: Global,
-        writer: &mut PropWriter,
+        writer: &mut PropWriter<Gathered>,
         part: &'static str,
     ) -> Result<(), Fail> {
         if part == "flush" {
-            return Ok(writer.flush()?);
+            return Ok(writer.flush(alloc)?);
         }
         let mut words = part.split(' ');
         let path = DavPath::new(alloc, words.next().unwrap_or(""))?;
@@ -161,8 +171,10 @@ impl Player for Written<MemFs, MemLs> {
         for part in parts {
             self.write(alloc, &mut writer, part)?;
         }
-        let tree = writer.close(alloc)?;
-        Ok(told(alloc, &reply, &tree)?.into_bytes())
+        match writer.close(alloc)?.into_tree() {
+            Some(tree) => Ok(told(alloc, &reply, &tree)?.into_bytes()),
+            None => Err(NoRow(question).into()),
+        }
     }
 }
 

@@ -1,9 +1,9 @@
 use Rattle.std.proofs.Common.{ap, subst}
-use Rattle.dav_engine.specs.OnHandler.{PutOf, MkcolOf, DeleteOf, CopyMoveOf, OptionsOf, PropfindOf, ProppatchOf, LockOf, UnlockOf}
+use Rattle.dav_engine.specs.OnHandler.{PutOf, MkcolOf, DeleteOf, CopyMoveOf, OptionsOf, ProppatchOf, LockOf, UnlockOf}
 use Rattle.dav_engine.specs.CopyMove.{IsCopyMove}
 use Rattle.dav_engine.specs.Put.{IsPut}
 use Rattle.dav_server.specs.Get.{IsGet, GetOf}
-use Rattle.dav_server.specs.Machine.{caller, gets, heads, puts, patches, makes, deletes, copies, moves, finds_properties, sets_properties, locks, releases}
+use Rattle.dav_server.specs.Machine.{caller, gets, heads, puts, patches, makes, deletes, copies, moves, sets_properties, locks, releases}
 use Rattle.dav_server.proofs.MethodLemmas.{offered_plan}
 use Rattle.dav_server.proofs.StepLemmas.{serves_as, serves_asked, serves_by, serves_held, serves_set, plan_at}
 use Rattle.dav_server.proofs.UngrantedLemmas.{same_held}
@@ -53,11 +53,6 @@ pub returns-in-Options-clause-serves : goal.returns-in-Options-clause-serves
 returns-in-Options-clause-serves g c =
     serves_as (λ plan is. plan_at c.in-Options.is (offered_plan is))
     (serves_set (λ s. OptionsOf s.allowed c.args.request.now (caller c.args.exchange.now)) c.handler.view_is c.handle_options.ensures.serves)
-
-pub returns-in-PropFind-clause-serves : goal.returns-in-PropFind-clause-serves
-returns-in-PropFind-clause-serves g c =
-    serves_as (λ plan is. plan_at c.in-PropFind.is (finds_properties is))
-    (serves_held c.handler.view_is (serves_by (ap (PropfindOf c.args.request.now c.args.body.now) c.caller_of.ensures.caller) c.handle_propfind.ensures.serves))
 
 pub returns-in-PropPatch-clause-serves : goal.returns-in-PropPatch-clause-serves
 returns-in-PropPatch-clause-serves g c =
