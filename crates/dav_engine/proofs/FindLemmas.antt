@@ -129,6 +129,8 @@ module _ (locks : Locks) (h : FindHeaders) (w : Writer) (p : PathText) (m : DavM
           (
             told_by w [],
             told.0,
+            refl,
+            ap (λ (x : Reply). x.status) is,
             ap (λ (x : Reply). record x { body = reply.Tree (told_by w told.0) }) (sym is),
             ap (λ (x : Reply). x.body) is,
             ap (λ (n : PropWriter T). n.finished) told.2,

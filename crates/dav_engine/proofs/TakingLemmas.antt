@@ -43,7 +43,7 @@ grown (text bytes) rs = grown_text bytes rs
 -- what was handed on to a tree
 pub gathered_by : {tree : Option ElementTree} {whole told result : Reply} → ((root : ElementTree) → tree ≡ Some root → result ≡ record told { body = reply.Tree root })
     → IsHandedOn opened_tree grown_tree None whole told (Some tree) → result ≡ whole
-gathered_by made (root, rs, are, nothing, after) = made (with_children root rs) (after ∙ grown root rs) ∙ sym are
+gathered_by made (root, rs, is, status, are, nothing, after) = made (with_children root rs) (after ∙ grown root rs) ∙ sym are
 
 -- a request was answered by what was handed on to a tree
 pub gathered_ok : {kind : MethodPlan Reply → Type 0} {old new : ServerState} {told r : Reply} {tree : Option (Option ElementTree)} → ((whole : Reply) → IsHandedOn opened_tree grown_tree None whole told tree → r ≡ whole)

@@ -1,9 +1,9 @@
 -- A multistatus that is handed on in parts: first without responses, and then its responses, one after another, as they are made
 -- (RFC 4918, section 13).
-use Rattle.std.specs.Prelude.{◌≡◌, List, [], ◌∷◌, Option, Some, None, option_map, Result, Ok, Err}
+use Rattle.std.specs.Prelude.{◌≡◌, true, List, [], ◌∷◌, Option, Some, None, option_map, Result, Ok, Err}
 use Rattle.dav_core.specs.declared.errors.DavError.{DavError}
 use Rattle.dav_core.specs.Asking.{StoreState}
-use Rattle.dav_core.specs.Element.{ElementTree, with_child, with_children}
+use Rattle.dav_core.specs.Element.{ElementTree, is_element, with_child, with_children}
 use Rattle.dav_engine.specs.declared.reply.ReplyBody.TheVariants as reply
 use Rattle.dav_engine.specs.Follows.{as_is, FollowsWithLocks, Serves}
 use Rattle.dav_engine.specs.Method.{MethodPlan}
@@ -15,13 +15,13 @@ abbrev pub taken_all : {T : Type 0} → (T → ElementTree → T) → T → List
 taken_all taken to [] = to
 taken_all taken to (r ∷ rs) = taken_all taken (taken to r) rs
 
--- A whole reply is told so: as it is, where nothing was handed on; or without a body, and its multistatus was handed on to `to`, which
--- is now `after`: first without responses, and then each response, in order.
+-- A whole reply is told so: as it is, where nothing was handed on; or as 207 without a body, and its multistatus was handed on to `to`,
+-- which is now `after`: first without responses, and then each response, in order.
 abbrev pub IsHandedOn : {T : Type 0} → (opened taken : T → ElementTree → T) → T → Reply → Reply → Option T → Type 0
 IsHandedOn opened taken to whole told None = told ≡ whole
 IsHandedOn opened taken to whole told (Some after) =
-    (root : ElementTree) × (responses : List ElementTree) × (whole ≡ record told { body = reply.Tree (with_children root responses) })
-    × (told.body ≡ reply.Nothing) × (after ≡ taken_all taken (opened to (with_children root [])) responses)
+    (root : ElementTree) × (responses : List ElementTree) × (is_element root ≡ true) × (told.status ≡ 207)
+    × (whole ≡ record told { body = reply.Tree (with_children root responses) }) × (told.body ≡ reply.Nothing) × (after ≡ taken_all taken (opened to (with_children root [])) responses)
 
 -- The whole outcome of a request is told so; an error as it is.
 abbrev pub HandsOn : {T : Type 0} → (opened taken : T → ElementTree → T) → T → Result Reply DavError → Result (Reply × Option T) DavError → Type 0
