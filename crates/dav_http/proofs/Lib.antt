@@ -23,6 +23,7 @@ mod ShownLemmas
 pub mod RefusedLemmas
 mod LeavesLemmas
 mod LeavesSteps
+mod HandingLemmas
 pub mod OneAnswer
 pub mod SavedLaws
 pub mod SavedCalls

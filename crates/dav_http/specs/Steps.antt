@@ -8,6 +8,7 @@ use Rattle.dav_engine.specs.declared.request.Body.{Body}
 use Rattle.dav_engine.specs.declared.request.Body.TheVariants as body
 use Rattle.dav_engine.specs.Caller.{Caller}
 use Rattle.dav_engine.specs.Reply.{Reply}
+use Rattle.dav_engine.specs.Taking.{IsHandedOn}
 use Rattle.dav_server.specs.GrantToken.{IsGrantToken}
 use Rattle.dav_server.specs.Head.{Request, IsHead}
 use Rattle.dav_server.specs.Machine.{Exchange}
@@ -69,6 +70,23 @@ pub record IsStepFor (head bytes : List ℕ) (who : Caller) (old : Server) (r : 
   pub same : new.settings ≡ old.settings
   pub ample : new.state.store.short ≡ false
   pub told : HoldsSendable r.body
+
+-- The whole reply to a request that the machine gets, and the server that is left, are those of a step of it in which memory lasts; the
+-- element tree of the reply, if it has one, may be sent; and the reply is told so, in parts.
+pub record AnsweredInParts {T : Type 0} (opened taken : T → ElementTree → T) (to : T) (old : Server) (x : Exchange) (told : Reply) (after : Option T) (new : Server) : Type 0 where
+  pub whole : Reply
+  pub answers : Answers old x whole new
+  pub same : new.settings ≡ old.settings
+  pub ample : new.state.store.short ≡ false
+  pub sendable : HoldsSendable whole.body
+  pub handed : IsHandedOn opened taken to whole told after
+
+-- The whole reply to a request is that of a step of the machine, and it is told so: as it is, or without its multistatus, which was handed
+-- on to `to` in parts (RFC 4918, section 13).
+pub record IsStepInParts {T : Type 0} (opened taken : T → ElementTree → T) (to : T) (head bytes : List ℕ) (who : Caller) (old : Server) (told : Reply) (after : Option T) (new : Server) : Type 0 where
+  pub whole : Reply
+  pub step : IsStepFor head bytes who old whole new
+  pub handed : IsHandedOn opened taken to whole told after
 
 -- A request has one answer: any two steps for it from one server have the same reply, and leave the same server.
 abbrev pub StepsAreOne : Type 0

@@ -21,7 +21,7 @@ use dav_core::errors::NoMemory;
 use dav_core::fs::DavFileSystem;
 use dav_core::ls::DavLock;
 use dav_core::method::DavMethodSet;
-use dav_engine::{Body, Caller, Reply};
+use dav_engine::{Body, Caller, Reply, Takes};
 use dav_presented::times::{find_as, patch_as};
 use dav_server::davhandler::{DavHandler, HandlerError};
 use dav_server::exchange::{Exchange, GrantToken, LAST_MOMENT, TokenError};
@@ -184,7 +184,7 @@ impl Handler {
     ghost use Rattle.dav_http.specs.Leaves.{Leaves};
     ghost use Rattle.dav_http.specs.Sent.{HoldsSendable, IsSendableTextIfAny};
     ghost use Rattle.dav_http.specs.SentLaws.{IsSendableRequest};
-    ghost use Rattle.dav_http.specs.Steps.{IsStepFor, new_server};
+    ghost use Rattle.dav_http.specs.Steps.{AnsweredInParts, IsStepFor, IsStepInParts, new_server};
 
     /// The server of an empty store, for the paths below a prefix. `BadPrefix` where the text is none; `Memory` where memory
     /// runs out.
@@ -221,6 +221,31 @@ impl Handler {
     {
         let exchange = exchange_of(alloc, head, body, caller)?;
         self.answer(alloc, &exchange)
+    }
+
+    /// The same, but that the multistatus of a PROPFIND is handed on to `to` in parts: first without responses, and then response by
+    /// response, as they are made (RFC 4918, section 13). The reply is told without a body then, and what took the responses is given
+    /// back; `None` where nothing was handed on: the reply is whole.
+    ///
+    /// `Principal` and `Memory` as for `handle`.
+    pub fn handle_to<T: Takes + Drop>(
+        &mut self,
+        alloc: Global,
+        head: &[u8],
+        body: Bytes,
+        caller: &Caller<'_>,
+        to: T,
+    ) -> Result<(Reply, Option<T>), HandleError>
+        ensures step { IfOk result (λ told. IsStepInParts T.opened T.taken to head.now body
+            caller.now self.old.server told.0 told.1 self.new.server) }
+        ensures left { IfOk result (λ told. Leaves head.now told.0.status
+            → self.new.server ≡ self.old.server) }
+        ensures principal { IsErrOf result HandleError.Principal
+            ↔ ¬ IsSendableTextIfAny caller.now.principal }
+        ensures unchanged { IsErrOf result HandleError.Principal → self.new ≡ self.old }
+    {
+        let exchange = exchange_of(alloc, head, body, caller)?;
+        self.answer_to(alloc, &exchange, to)
     }
 
     /// The first lock whose time ended at this moment or before, in seconds since 1970; `None` where none did.
@@ -302,6 +327,35 @@ impl Handler {
                     return Err(HandleError::Memory);
                 }
                 Ok(reply)
+            }
+            Err(_) => Err(HandleError::Memory),
+        }
+    }
+
+    // The same, of which the multistatus is handed on to `to`.
+    fn answer_to<T: Takes + Drop>(
+        &mut self,
+        alloc: Global,
+        exchange: &Exchange<'_>,
+        to: T,
+    ) -> Result<(Reply, Option<T>), HandleError>
+        requires moment { exchange.now.moment ≤ last_moment }
+        requires sendable { IsSendableRequest exchange.now }
+        ensures parts { IfOk result (λ told. AnsweredInParts T.opened T.taken to
+            self.old.server exchange.now told.0 told.1 self.new.server) }
+        ensures left { IfOk result (λ told. Leaves exchange.now.head told.0.status
+            → self.new.server ≡ self.old.server) }
+        ensures memory { OnErr result (result ≡ Err HandleError.Memory) }
+    {
+        if self.handler.fs().was_short() {
+            return Err(HandleError::Memory);
+        }
+        match self.handler.handle_to(alloc, exchange, to) {
+            Ok(told) => {
+                if self.handler.fs().was_short() {
+                    return Err(HandleError::Memory);
+                }
+                Ok(told)
             }
             Err(_) => Err(HandleError::Memory),
         }
