@@ -20,6 +20,7 @@ mod Addressed
 mod HeadTextLemmas
 mod PresentedLemmas
 mod ShownLemmas
+mod ListingLemmas
 pub mod RefusedLemmas
 mod LeavesLemmas
 mod LeavesSteps

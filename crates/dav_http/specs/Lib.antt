@@ -15,3 +15,5 @@ pub mod Refused
 pub mod Saved
 pub mod Room
 pub mod Uploaded
+pub mod Listing
+pub mod ListingCode

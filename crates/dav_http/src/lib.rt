@@ -20,7 +20,7 @@ pub use ending::unlock_head;
 pub use handler::{HandleError, Handler, may_be_refused, method_of};
 pub use head::{Head, is_lock, is_safe, leaves, takes_tree};
 pub use placed::{begins_past, firsts_in};
-pub use presented::{Store, present};
+pub use presented::{Listing, Store, present, present_listing};
 pub use response::send;
 pub use sendable::is_sendable_if_any;
 pub use uploaded::{TimeRequest, time_request};

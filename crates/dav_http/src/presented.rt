@@ -9,6 +9,7 @@ ghost use Rattle.dav_http.specs.Sending.{IsSentWith};
 
 mod asked;
 mod fields;
+mod listing;
 mod preferred;
 mod told;
 
@@ -31,6 +32,7 @@ use dav_xml::XmlError;
 use http::StatusCode;
 use http_header::{HeaderName, HeaderValue};
 use http_server::Response;
+pub use listing::{Listing, present_listing};
 use std::alloc::{AllocError, Global};
 
 // Whether a method is HEAD (RFC 9110, section 9.3.2).

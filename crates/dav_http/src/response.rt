@@ -34,7 +34,11 @@ pub(crate) fn is_sent(is_head: bool, name: &str) -> bool
 }
 
 // Adds the fields of a reply that are sent.
-fn add_fields(fields: &HeaderMap, is_head: bool, response: &mut Response) -> Result<(), AllocError>
+pub(crate) fn add_fields(
+    fields: &HeaderMap,
+    is_head: bool,
+    response: &mut Response,
+) -> Result<(), AllocError>
     ensures fields { OnOk result (fields_of response.new
         ≡ fields_of response.old ++ sent_fields is_head (headers_in fields.now)) }
     ensures status { OnOk result (response.new.status ≡ response.old.status) }

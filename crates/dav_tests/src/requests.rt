@@ -1,6 +1,7 @@
 //! Requests as rows of text: what is kept of a head, and what a server answers. In a row `^` is
 //! CRLF.
 
+mod listing;
 mod presented;
 mod refused;
 mod saved;
