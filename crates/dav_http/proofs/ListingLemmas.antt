@@ -10,6 +10,7 @@ use Rattle.dav_core.specs.Element.{ElementTree, child_elements, children_of, ele
 use Rattle.dav_core.proofs.ElementLemmas.{tree_list_trees, trees_tree_list}
 use Rattle.dav_engine.specs.declared.reply.ReplyBody.TheVariants as reply
 use Rattle.dav_engine.specs.Reply.{Reply}
+use Rattle.dav_engine.specs.Taking.{taken_all}
 use Rattle.dav_server.specs.Head.{Request}
 use Rattle.dav_presented.specs.declared.quota.Room.{Room}
 use Rattle.dav_presented.specs.Minimal.{answered_to, with_propstat}
@@ -25,8 +26,8 @@ use Rattle.dav_xml.specs.Namespaces.{document}
 use Rattle.dav_xml.specs.Written.{declaration, document_of}
 use Rattle.dav_xml.proofs.ByChild.{document_is_of_children}
 use Rattle.dav_http.specs.Presented.{applied, completed_by, found, leaves_out, shown_body, shown_tree}
-use Rattle.dav_http.specs.Sending.{sent_fields}
-use Rattle.dav_http.specs.Listing.{IsBegun, Listed, ShowsListing, asks_for_room, opened, shown_by, shown_in, taken, taken_all, text_before, text_in, told_in, whole_text}
+use Rattle.dav_http.specs.Sending.{IsSentWith, sent_fields}
+use Rattle.dav_http.specs.Listing.{IsBegun, Listed, ShowsListing, asks_for_room, opened, shown_by, shown_in, taken, text_before, text_in, whole_text}
 use Rattle.dav_http.specs.Steps.{sent_bytes}
 
 by_test : (t : Bool) (Q : Bool → Type 0) → (t ≡ true → Q true) → (t ≡ false → Q false) → Q t
@@ -226,8 +227,16 @@ found_is : (leaves_out : Bool) (room : Room) (bytes : List ℕ) (r : Reply) → 
 found_is leaves_out room bytes r is =
     cond-true (r.status == 207) (record r { body = shown_body leaves_out room bytes r.body }) (cond (r.status == 501) (record r { status = 403 }) r) (eq-eqb r.status 207 is)
 
+-- a multistatus that holds no response is the same without any
+opened_again : (start : Listed) (root : ElementTree) → is_element root ≡ true → opened start (with_children root []) ≡ opened start root
+opened_again start (text bytes) is = cc
+opened_again start (element name prefix namespace attributes children) is = refl
+
 pub listing_shown : (q : Request) (r : Reply) (l : Listed) (sent : Response)
     → IsResponse r.status (sent_fields false r.headers ++ applied q r) (whole_text l.root l.text) sent → ShowsListing q r l sent
-listing_shown q r l sent filled room bytes start root ts begun is took status =
-    subst (λ (x : Reply). IsResponse x.status (sent_fields false x.headers ++ applied q r) (sent_bytes x.body) sent) (sym (found_is (leaves_out q) room bytes (told_in r root ts) status))
-    (subst (λ (bs : List ℕ). IsResponse r.status (sent_fields false r.headers ++ applied q r) bs sent) (shown_text l start (leaves_out q) room bytes root ts begun is took) filled)
+listing_shown q r l sent filled room bytes start whole begun (root, ts, is, status, are, nothing, took) =
+    let told : Reply = record r { body = reply.Tree (with_children root ts) } in
+    let came : l ≡ taken_all taken (opened start root) ts = took ∙ ap (λ x. taken_all taken x ts) (opened_again start root is) in
+    subst (λ (w : Reply). IsSentWith (applied q w) false (found (leaves_out q) room bytes w) sent) (sym are)
+    (subst (λ (x : Reply). IsResponse x.status (sent_fields false x.headers ++ applied q r) (sent_bytes x.body) sent) (sym (found_is (leaves_out q) room bytes told status))
+    (subst (λ (bs : List ℕ). IsResponse r.status (sent_fields false r.headers ++ applied q r) bs sent) (shown_text l start (leaves_out q) room bytes root ts begun is came) filled))

@@ -1,9 +1,9 @@
 -- A listing that is shown to its client response by response (RFC 4918, sections 9.1 and 14.16).
-use Rattle.std.specs.Prelude.{◌≡◌, ℕ, ◌==◌, Bool, true, if◌then◌else◌, List, [], ◌∷◌, ◌++◌, length, Option, Some, None, false}
+use Rattle.std.specs.Prelude.{◌≡◌, ℕ, ◌==◌, Bool, if◌then◌else◌, List, [], ◌∷◌, ◌++◌, length, Option, Some, None, false}
 use Rattle.http_server.specs.declared.response.Response.{Response}
-use Rattle.dav_core.specs.Element.{ElementTree, is_element, with_children}
-use Rattle.dav_engine.specs.declared.reply.ReplyBody.TheVariants as reply
+use Rattle.dav_core.specs.Element.{ElementTree, with_children}
 use Rattle.dav_engine.specs.Reply.{Reply}
+use Rattle.dav_engine.specs.Taking.{IsHandedOn}
 use Rattle.dav_server.specs.Head.{Request}
 use Rattle.dav_presented.specs.declared.quota.Room.{Room}
 use Rattle.dav_presented.specs.Minimal.{answered_to}
@@ -69,19 +69,10 @@ abbrev pub whole_text : Option ElementTree → List ℕ → List ℕ
 whole_text None text = []
 whole_text (Some root) text = if length text == 0 then document_of root else text ++ closing_of root
 
--- after these came, one after another
-abbrev pub taken_all : {T : Type 0} → (T → ElementTree → T) → T → List ElementTree → T
-taken_all takes t [] = t
-taken_all takes t (response ∷ responses) = taken_all takes (takes t response) responses
-
--- a reply whose body is the multistatus of these responses (RFC 4918, section 13)
-abbrev pub told_in : Reply → ElementTree → List ElementTree → Reply
-told_in r root responses = record r { body = reply.Tree (with_children root responses) }
-
--- What is sent of a 207 to a PROPFIND whose responses a listing took, one after another: the listing as it is shown where it is one tree of
--- them all (RFC 4918, section 9.1).
+-- What is sent of a 207 to a PROPFIND whose multistatus was handed on to a listing in parts: what is shown of the whole reply (RFC 4918,
+-- section 9.1).
 abbrev pub ShowsListing : Request → Reply → Listed → Response → Type 0
-ShowsListing q r l sent =
-    (room : Room) (bytes : List ℕ) (start : Listed) (root : ElementTree) (responses : List ElementTree)
-    → IsBegun (leaves_out q) room bytes start → is_element root ≡ true → l ≡ taken_all taken (opened start root) responses → r.status ≡ 207
-    → IsSentWith (applied q r) false (found (leaves_out q) room bytes (told_in r root responses)) sent
+ShowsListing q told l sent =
+    (room : Room) (bytes : List ℕ) (start : Listed) (whole : Reply)
+    → IsBegun (leaves_out q) room bytes start → IsHandedOn opened taken start whole told (Some l)
+    → IsSentWith (applied q whole) false (found (leaves_out q) room bytes whole) sent

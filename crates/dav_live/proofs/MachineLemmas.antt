@@ -2,7 +2,7 @@
 use Rattle.std.proofs.Common.{Bool, IfOk, OnOk, Result, Ok, Err, true, false, not, true≢false, codes, ◌≢◌, ◌≡◌, ◌⊎◌, inl, inr, ℕ, List, Option, Some, None, ap, refl, length, subst, sym, ◌∙◌}
 use Rattle.std.specs.Bool.{Decides}
 use Rattle.http_server.specs.declared.response.Response.{Response}
-use Rattle.dav_core.specs.declared.method.DavMethod.TheVariants.{Get, Head}
+use Rattle.dav_core.specs.declared.method.DavMethod.TheVariants.{Get, Head, PropFind}
 use Rattle.dav_core.specs.Locks.{Lock}
 use Rattle.dav_engine.specs.Reply.{Reply}
 use Rattle.dav_server.specs.Head.{IsHead, Request}
@@ -10,7 +10,12 @@ use Rattle.dav_server.specs.Machine.{Exchange}
 use Rattle.dav_server.specs.Server.{Server}
 use Rattle.dav_server.proofs.HeadLemmas.{one_head}
 use Rattle.dav_http.specs.Leaves.{Leaves, reading}
-use Rattle.dav_http.specs.Steps.{IsStepFor}
+use Rattle.dav_core.specs.Path.{Path}
+use Rattle.dav_http.specs.Listing.{IsBegun, Listed, ShowsListing, opened, taken}
+use Rattle.dav_http.specs.Presented.{applied, found, leaves_out, listing}
+use Rattle.dav_http.specs.Room.{room_of}
+use Rattle.dav_http.specs.Sending.{IsSentWith}
+use Rattle.dav_http.specs.Steps.{IsStepFor, IsStepInParts}
 use Rattle.dav_access.specs.Rules.{Rules}
 use Rattle.dav_access.specs.declared.limit.Limit.{Limit}
 use Rattle.dav_confined.specs.Leave.{MayUnlock}
@@ -21,7 +26,7 @@ use Rattle.dav_http.proofs.RefusedLemmas.{may_be_refused, said_of}
 use Rattle.dav_limits.specs.Limits.{IsPast}
 use Rattle.dav_seen.specs.Ways.{IsWayReply}
 use Rattle.dav_live.proofs.AdmissionLemmas.{exchange_with}
-use Rattle.dav_live.specs.Answers.{AsksToSee, IsAnswer, IsBarred, IsForeignUnlock, IsKeptFrom, IsLook, IsNotRun, IsRefused, IsSentFor, MayUnlockIn, barred, caller_of, full, refused, replied, seen, shown, told}
+use Rattle.dav_live.specs.Answers.{AsksToSee, IsAnswer, IsBarred, IsForeignUnlock, IsKeptFrom, IsLook, IsNotRun, IsRefused, IsSentFor, MayUnlockIn, barred, caller_of, full, presented, refused, replied, seen, shown, told}
 
 -- a GET or HEAD leaves the server
 seeing_leaves : (head : List ℕ) (status : ℕ) → AsksToSee head → Leaves head status
@@ -42,6 +47,27 @@ module _ (old mid : Server) (q : RequestView) (head : List ℕ) (same : head ≡
 
   pub reply_answered : IsSentFor mid q reply sent → IsAnswer old q sent mid
   reply_answered is_sent = replied reply step is_sent
+
+-- ---- listings
+
+-- a PROPFIND leaves the server
+pub finding_leaves : (head : List ℕ) (r : Request) → IsHead head r → r.method ≡ codes "PROPFIND" → (status : ℕ) → Leaves head status
+finding_leaves head r is named status = reading r PropFind is (tt, named) refl
+
+module _ (old mid : Server) (q : RequestView) (start : Listed) (reply : Reply) (sent : Response) where
+  -- what was handed on to a listing is shown
+  pub listing_answered : (r : Request) (place : Option Path) (available : ℕ) (l : Listed) → mid ≡ old → IsHead q.head r → r.method ≡ codes "PROPFIND"
+      → IsBegun (leaves_out r) (room_of old place available) q.body start → IsStepInParts opened taken start q.head q.body (caller_of q) old reply (Some l) mid
+      → ShowsListing r reply l sent → IsAnswer old q sent mid
+  listing_answered r place available l same is named begun parts shows =
+      replied parts.whole parts.step
+      (presented r is place available (listing named
+      (subst (λ (s : Server). IsSentWith (applied r parts.whole) false (found (leaves_out r) (room_of s place available) q.body parts.whole) sent) (sym same)
+      (shows (room_of old place available) q.body start parts.whole begun parts.handed))))
+
+  -- and a whole reply is sent
+  pub whole_answered : IsStepInParts opened taken start q.head q.body (caller_of q) old reply None mid → IsSentFor mid q reply sent → IsAnswer old q sent mid
+  whole_answered parts is = replied parts.whole parts.step (subst (λ (r : Reply). IsSentFor mid q r sent) parts.handed is)
 
 -- ---- looks
 

@@ -1,5 +1,5 @@
 //! What the requests of a live server are answered by: the machine, and a page where somebody asks for a folder.
-ghost use Rattle.std.specs.Prelude.{◌≡◌, ◌⊎◌, ◌↔◌, ℕ, IfOk, IsFalse, IsTrue, List, OnOk, codes};
+ghost use Rattle.std.specs.Prelude.{◌≡◌, ◌⊎◌, ◌↔◌, ℕ, IfOk, IfSome, IsFalse, IsTrue, List, OnOk, codes};
 ghost use Rattle.dav_http.specs.Saved.{IsSaveable, Loads, saved_bytes};
 ghost use Rattle.std.specs.Bool.{Decides};
 ghost use Rattle.std.specs.Option.{option_copied};
@@ -22,8 +22,8 @@ use dav_core::davpath::DavPath;
 use dav_core::errors::NoMemory;
 use dav_engine::{Caller, Reply, ReplyBody};
 use dav_http::{
-    HandleError as HttpError, Handler, Head, Store, leaves, may_be_refused, method_of, present,
-    send, unlock_head,
+    HandleError as HttpError, Handler, Head, Listing, Store, leaves, may_be_refused, method_of,
+    present, present_listing, send, unlock_head,
 };
 use dav_kept::{Effect, HandleError, Handles, Request};
 use dav_limits::{Watches, is_past};
@@ -80,6 +80,29 @@ fn is_get_or_head(method: &[u8]) -> bool
     ensures { IsTrue result ↔ (method.now ≡ codes "GET") ⊎ (method.now ≡ codes "HEAD") }
 {
     method == b"GET".as_slice() || is_head(method)
+}
+
+// Whether a method is PROPFIND.
+fn is_propfind(method: &[u8]) -> bool
+    ensures { Decides result (method.now ≡ codes "PROPFIND") }
+{
+    method == b"PROPFIND".as_slice()
+}
+
+// The head of a PROPFIND, where these bytes are one.
+fn propfind_in(head: &[u8]) -> Option<Head<'_>>
+    ensures { IfSome result (λ h. IsHead head.now h × (h.method ≡ codes "PROPFIND")) }
+{
+    match Head::read(head) {
+        Some(head) => {
+            if is_propfind(head.method()) {
+                Some(head)
+            } else {
+                None
+            }
+        }
+        None => None,
+    }
 }
 
 // Whether a method is UNLOCK.
@@ -499,7 +522,7 @@ impl Machine {
         self.look_at(rules, request.head, request.body, &caller)
     }
 
-    // Fills the response to a request that looks at a folder with the reply.
+    // Fills the response to a request with what its client is shown of a reply, whatever the request did.
     fn tell_way(
         &self,
         request: &Request<'_>,
@@ -554,6 +577,95 @@ fn unseen(error: LookError) -> HandleError {
     }
 }
 
+impl Machine {
+    ghost use Rattle.std.specs.Prelude.{Option};
+    ghost use Rattle.dav_core.specs.Path.{Path};
+    ghost use Rattle.dav_http.specs.Listing.{IsBegun, opened, taken};
+    ghost use Rattle.dav_http.specs.Presented.{leaves_out};
+    ghost use Rattle.dav_http.specs.Room.{room_of};
+    ghost use Rattle.dav_http.specs.Steps.{IsStepInParts};
+
+    // What takes the responses to a PROPFIND with this head.
+    fn listing_for(&self, head: &Head<'_>, request: &Request<'_>) -> Result<Listing, NoMemory>
+        ensures { IfOk result (λ listing. (place : Option Path) × (available : ℕ)
+            × IsBegun (leaves_out head.now) (room_of self.now place available)
+            request.now.body listing) }
+    {
+        let store = self.store_for(request.head)?;
+        Listing::new(self.alloc, head, request.body.as_slice(), store)
+    }
+
+    // The reply of the handler to a request that only reads, of which the multistatus is handed on to a listing.
+    fn hand_on(
+        &mut self,
+        request: &Request<'_>,
+        listing: Listing,
+    ) -> Result<(Reply, Option<Listing>), HandleError>
+        requires { (status : ℕ) → Leaves request.now.head status }
+        ensures step { IfOk result (λ told. IsStepInParts opened taken listing
+            request.now.head request.now.body (caller_of request.now)
+            self.old told.0 told.1 self.new) }
+        ensures same { OnOk result (self.new ≡ self.old) }
+    {
+        let watches = mem::replace(&mut self.watches, Watches::new(self.alloc));
+        let caller = caller_of(request);
+        let body = request.body.clone()?;
+        match self
+            .handler
+            .handle_to(self.alloc, request.head, body, &caller, listing)
+        {
+            Ok(told) => {
+                self.watches = watches;
+                Ok(told)
+            }
+            Err(error) => Err(refused(error)),
+        }
+    }
+
+    // Fills the response to a PROPFIND with this head: what is told is written response by response, as it is made.
+    fn list(
+        &mut self,
+        head: &Head<'_>,
+        request: &Request<'_>,
+        response: &mut Response,
+    ) -> Result<Effect, HandleError>
+        requires blank { IsBlank response.old }
+        requires head { IsHead request.now.head head.now }
+        requires finds { head.now.method ≡ codes "PROPFIND" }
+        ensures answers { IfOk result (λ _.
+            IsAnswer self.old request.now response.new self.new) }
+        ensures same { OnOk result (self.new ≡ self.old) }
+    {
+        self.see_told()?;
+        let listing = self.listing_for(head, request)?;
+        let (reply, taken) = self.hand_on(request, listing)?;
+        match taken {
+            Some(listing) => present_listing(self.alloc, head, reply, listing, response)?,
+            None => self.tell_way(request, reply, response)?,
+        }
+        Ok(Effect::Left)
+    }
+
+    // Fills the response to a request that isn't a PROPFIND.
+    fn answer(
+        &mut self,
+        request: &Request<'_>,
+        response: &mut Response,
+    ) -> Result<Effect, HandleError>
+        requires { IsBlank response.old }
+        ensures answers { IfOk result (λ _.
+            IsAnswer self.old request.now response.new self.new) }
+        ensures left { IfOk result (λ effect. effect ≡ Left → self.new ≡ self.old) }
+    {
+        let reply = self.reply_to(request)?;
+        if is_for_folder(request.head, &reply) {
+            self.answer_folder(request, reply, response)
+        } else {
+            self.answer_with(request, reply, response)
+        }
+    }
+}
+
 impl Handles for Machine {
     ghost answers = { λ old request response new. IsAnswer old request response new };
 
@@ -562,11 +674,9 @@ impl Handles for Machine {
         request: &Request<'_>,
         response: &mut Response,
     ) -> Result<Effect, HandleError> {
-        let reply = self.reply_to(request)?;
-        if is_for_folder(request.head, &reply) {
-            self.answer_folder(request, reply, response)
-        } else {
-            self.answer_with(request, reply, response)
+        match propfind_in(request.head) {
+            Some(head) => self.list(&head, request, response),
+            None => self.answer(request, response),
         }
     }
 

@@ -21,7 +21,7 @@ use crate::response::add_fields;
 use bytes::Bytes;
 use dav_core::element::{Element, XmlNode};
 use dav_core::errors::NoMemory;
-use dav_engine::Reply;
+use dav_engine::{Reply, Takes};
 use dav_presented::minimal::answered_to;
 use dav_presented::quota::{Room, asks_for_quota, with_quota};
 use dav_presented::typed::with_types;
@@ -164,7 +164,7 @@ impl Model for Listing {
 impl Listing {
     ghost use Rattle.std.specs.Prelude.{◌≡◌, ◌∷◌, [], IfOk, OnOk, Some};
     ghost use Rattle.dav_core.specs.Element.{with_children};
-    ghost use Rattle.dav_http.specs.Listing.{IsBegun, opened, shown_in, taken, text_with};
+    ghost use Rattle.dav_http.specs.Listing.{IsBegun, shown_in, text_with};
     ghost use Rattle.dav_http.specs.Presented.{leaves_out};
     ghost use Rattle.dav_http.specs.Room.{room_in};
 
@@ -190,15 +190,6 @@ impl Listing {
         })
     }
 
-    /// Takes the multistatus that holds no response yet. Allocates nothing.
-    pub fn open(&mut self, alloc: Global, multistatus: Element) -> Result<(), NoMemory>
-        ensures { OnOk result (self.new ≡ opened self.old multistatus) }
-    {
-        self.root = Some(with_nodes(multistatus, Vec::new(alloc)));
-        self.text = Pieces::new(alloc);
-        Ok(())
-    }
-
     // A multistatus as it is shown.
     fn shown(&self, alloc: Global, told: Element) -> Result<Element, NoMemory>
         ensures { IfOk result (λ sent. sent ≡ shown_in self.now told) }
@@ -219,11 +210,23 @@ impl Listing {
         self.root = Some(with_nodes(sent, children));
         Ok(())
     }
+}
 
-    /// Takes one more response. `Err` where there is no memory: the listing is then of no use.
-    pub fn take(&mut self, alloc: Global, response: Element) -> Result<(), NoMemory>
-        ensures { OnOk result (self.new ≡ taken self.old response) }
-    {
+impl Takes for Listing {
+    ghost use Rattle.dav_http.specs.Listing.{opened, taken};
+
+    ghost opened = { opened };
+
+    ghost taken = { taken };
+
+    // Allocates nothing.
+    fn open(&mut self, alloc: Global, multistatus: Element) -> Result<(), NoMemory> {
+        self.root = Some(with_nodes(multistatus, Vec::new(alloc)));
+        self.text = Pieces::new(alloc);
+        Ok(())
+    }
+
+    fn take(&mut self, alloc: Global, response: Element) -> Result<(), NoMemory> {
         match self.root.take() {
             Some(root) => self.add(alloc, root, response),
             None => Ok(()),

@@ -2,7 +2,7 @@ use Rattle.std.proofs.Common.{ap, refl, ◌∙◌}
 use Rattle.std.proofs.lemmas.Result.{IfOk-weaker}
 use Rattle.dav_kept.specs.Records.{RequestView}
 use Rattle.dav_live.proofs.MachineLemmas.{folder_answered, folder_leaves, reply_answered}
-use Rattle.dav_live.proofs.machine.MachineHandles.handle.Goals as goal
+use Rattle.dav_live.proofs.machine.Machine.answer.Goals as goal
 
 pub returns-then-is_for_folder-clause-answers : goal.returns-then-is_for_folder-clause-answers
 returns-then-is_for_folder-clause-answers c =
