@@ -258,7 +258,8 @@ pub fn import_moved(words: &Words) -> Result<bool, Ended> {
     let place = words.to.as_deref().unwrap_or(&words.folder);
     match made {
         Ok(()) if status == 0 => {
-            say(&format!("imported {}, with all that clients stored, in the order of their tags\n", progress.counts(moved.items.len() - 1)));
+            let folders = moved.items.iter().filter(|item| item.is_folder).count() - 1;
+            say(&format!("imported {}, with all that clients stored, in the order of their tags\n", progress.counts(folders)));
             Ok(true)
         }
         Err(Stop::Refused(why)) => Err(Ended::Refused(format!("{place}: {why}"))),

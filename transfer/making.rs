@@ -39,8 +39,8 @@ const TOGETHER: usize = 60_000;
 /// The most bytes of elements in one PROPPATCH, whose body is a MiB at most; one element is always taken.
 const ELEMENTS: usize = 900_000;
 
-/// How many files and folders are copied at once to count on.
-const COUNTING: u64 = 4096;
+/// To count on, so many empty files are copied, and so many copies of these together.
+const COUNTING: usize = 64;
 
 /// How far the clock may be behind, in seconds: so long it is waited.
 const BEHIND: u64 = 60;
@@ -170,22 +170,22 @@ impl Making<'_> {
         if number >= self.moved.past {
             return Ok(());
         }
-        self.must(201, "MKCOL", &one, "")?;
-        let mut size = 1;
-        while number < self.moved.past {
-            let is_whole = size >= COUNTING || size >= self.moved.past - number;
-            let response = self.asks.ask("COPY", &one, &format!("Destination: {two}\r\n"), &mut io::empty(), 0)?;
+        let folders = [&one, &format!("{one}/files")].map(|path| Small::new("MKCOL", path, "", Vec::new()));
+        let files = (0..COUNTING).map(|count| Small::new("PUT", &format!("{one}/files/{count}"), "", Vec::new()));
+        self.must_all(&mut folders.into_iter().chain(files).collect())?;
+        for count in 0.. {
+            let (from, to) = if count < COUNTING { (format!("{one}/files"), format!("{one}/{count}")) } else { (one.clone(), two.clone()) };
+            let response = self.asks.ask("COPY", &from, &format!("Destination: {to}\r\n"), &mut io::empty(), 0)?;
             if !matches!(response.status, 201 | 204) {
-                return refused(format!("COPY {one}: {}", reason(response.status)));
-            }
-            if !is_whole {
-                self.must(201, "MOVE", &two, &format!("Destination: {one}/{size}\r\n"))?;
-                size *= 2;
+                return refused(format!("COPY {from}: {}", reason(response.status)));
             }
             let before = number;
             (number, _) = self.counted(&probe)?;
             if number <= before {
                 return refused(format!("{probe}: its tag doesn't grow"));
+            }
+            if number >= self.moved.past {
+                break;
             }
         }
         Ok(())
@@ -304,12 +304,15 @@ impl Making<'_> {
         }
     }
 
-    /// Makes the folder. `again`: what an import that broke off left of it may be there.
+    /// Makes the folder. `again`: what an import that broke off left of it may be there, or all of it.
     pub fn make(&mut self, again: bool) -> Made<()> {
         let aside = self.moved.free_name();
         if self.is_there()? {
             if !again {
                 return refused(format!("{} is there already; nothing was changed (an import that broke off can be begun again with --again)", self.to));
+            }
+            if self.compare().is_ok() {
+                return Ok(());
             }
             self.clear(&aside)?;
         }
