@@ -173,20 +173,25 @@ impl Making<'_> {
         let folders = [&one, &format!("{one}/files")].map(|path| Small::new("MKCOL", path, "", Vec::new()));
         let files = (0..COUNTING).map(|count| Small::new("PUT", &format!("{one}/files/{count}"), "", Vec::new()));
         self.must_all(&mut folders.into_iter().chain(files).collect())?;
+        let mut taken = 0;
         for count in 0.. {
             let (from, to) = if count < COUNTING { (format!("{one}/files"), format!("{one}/{count}")) } else { (one.clone(), two.clone()) };
             let response = self.asks.ask("COPY", &from, &format!("Destination: {to}\r\n"), &mut io::empty(), 0)?;
             if !matches!(response.status, 201 | 204) {
                 return refused(format!("COPY {from}: {}", reason(response.status)));
             }
-            let before = number;
-            (number, _) = self.counted(&probe)?;
+            taken += if count < COUNTING { COUNTING } else { COUNTING * COUNTING } as u64;
+            if number + taken < self.moved.past {
+                continue;
+            }
+            let before = std::mem::replace(&mut number, self.counted(&probe)?.0);
             if number <= before {
                 return refused(format!("{probe}: its tag doesn't grow"));
             }
             if number >= self.moved.past {
                 break;
             }
+            taken = 0;
         }
         Ok(())
     }
