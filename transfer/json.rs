@@ -89,7 +89,10 @@ impl Reader<'_> {
         }
         if self.take('[') {
             let mut items = Vec::new();
-            self.members(']', |reader| Some(items.push(reader.value(depth + 1)?)))?;
+            self.members(']', |reader| {
+                items.push(reader.value(depth + 1)?);
+                Some(())
+            })?;
             return Some(Json::List(items));
         }
         if self.take('{') {
