@@ -154,19 +154,26 @@ impl Making<'_> {
         }
     }
 
-    /// Has the place count past all numbers of tags that were told of the folder where it comes from, and wait until its clock is past the
-    /// last change there: so no tag and no date that a client has stands for what it didn't see.
-    fn count_on(&mut self, within: &str) -> Made<()> {
-        self.must(201, "MKCOL", within, "")?;
-        let [probe, one, two] = ["last", "one", "two"].map(|name| format!("{within}/{name}"));
-        let (mut number, mut moment) = self.counted(&probe)?;
-        while moment <= self.moved.moment {
+    /// Waits until the clock there is past the last change where the folder comes from; the number that a change takes by then.
+    fn wait(&mut self, probe: &str) -> Made<u64> {
+        loop {
+            let (number, moment) = self.counted(probe)?;
+            if moment > self.moved.moment {
+                return Ok(number);
+            }
             if moment + BEHIND < self.moved.moment {
                 return refused(format!("the clock there is {} seconds behind that of the export: set it first", self.moved.moment - moment));
             }
             sleep(LATER);
-            (number, moment) = self.counted(&probe)?;
         }
+    }
+
+    /// Has the place count past all numbers of tags that were told of the folder where it comes from, and its clock go on: so no tag and no
+    /// date that a client has stands for what it didn't see.
+    fn count_on(&mut self, within: &str) -> Made<()> {
+        self.must(201, "MKCOL", within, "")?;
+        let [probe, one, two] = ["last", "one", "two"].map(|name| format!("{within}/{name}"));
+        let mut number = self.wait(&probe)?;
         if number >= self.moved.past {
             return Ok(());
         }
@@ -240,9 +247,6 @@ impl Making<'_> {
         let (mut waiting, mut requests) = (Vec::new(), Vec::new());
         for (place, item) in moved.items.iter().enumerate().skip(1) {
             let is_waiting = !places.contains(item.above());
-            if is_waiting && waiting.is_empty() {
-                self.add(&mut requests, Small::new("MKCOL", &self.at(&format!("/{aside}")), "", Vec::new()))?;
-            }
             let at = self.at(&if is_waiting { format!("/{aside}/{place}") } else { item.path.clone() });
             match self.request(item, &at)? {
                 Some(request) => self.add(&mut requests, request)?,
@@ -263,15 +267,13 @@ impl Making<'_> {
             let fields = format!("Destination: {}\r\nOverwrite: F\r\n", self.at(&item.path));
             self.add(&mut requests, Small::new("MOVE", at, &fields, Vec::new()))?;
         }
-        self.must_all(&mut requests)?;
-        if waiting.is_empty() { Ok(()) } else { self.must(204, "DELETE", &self.at(&format!("/{aside}")), "") }
+        self.must_all(&mut requests)
     }
 
     /// Stores what clients stored, and sets the times, once nothing else changes any more: neither changes a tag.
-    fn dress(&mut self) -> Made<()> {
-        let moved = self.moved;
+    fn dress(&mut self, items: &[Item]) -> Made<()> {
         let mut requests = Vec::new();
-        for item in &moved.items {
+        for item in items {
             let date = format!("<D:getlastmodified>{}</D:getlastmodified>", http_date(item.modified));
             let mut within = String::new();
             for xml in item.dead.iter().chain([&date]) {
@@ -288,8 +290,9 @@ impl Making<'_> {
         self.must_all(&mut requests)
     }
 
-    /// Sees that all is there as it was where it comes from, and nothing else, in the same order, past all numbers of before.
-    fn compare(&mut self) -> Made<()> {
+    /// Sees that all is there as it was where it comes from, and nothing else, in the same order, past all numbers of before; or all but
+    /// what is told of the folder itself.
+    fn compare(&mut self, skipped: usize) -> Made<()> {
         let entries = walk(self.asks, &self.to)?;
         let items: Option<Vec<Item>> = entries.iter().map(|entry| Item::of(entry, &self.to)).collect();
         let items = items.ok_or(Stop::Refused(format!("{}: something there has no date", self.to)))?;
@@ -301,7 +304,7 @@ impl Making<'_> {
             let dead: BTreeSet<String> = item.dead.iter().cloned().collect();
             (item.path.clone(), item.is_folder, item.size, item.modified, dead)
         };
-        let (found, wanted): (Vec<_>, Vec<_>) = (found.items.iter().map(told).collect(), self.moved.items.iter().map(told).collect());
+        let [found, wanted] = [&found.items, &self.moved.items].map(|items| items.iter().skip(skipped).map(told).collect::<Vec<_>>());
         match found.iter().zip(&wanted).find(|(found, wanted)| found != wanted) {
             Some((found, wanted)) => refused(format!("it isn't there as it was: {found:?} and not {wanted:?}")),
             None if found.len() != wanted.len() => refused(format!("there are {} files and folders, and not {}", found.len(), wanted.len())),
@@ -316,8 +319,8 @@ impl Making<'_> {
             if !again {
                 return refused(format!("{} is there already; nothing was changed (an import that broke off can be begun again with --again)", self.to));
             }
-            if self.compare().is_ok() {
-                return Ok(());
+            if !self.is_begun(&aside)? {
+                return self.end();
             }
             self.clear(&aside)?;
         }
@@ -334,9 +337,32 @@ impl Making<'_> {
         self.count_on(&self.at(&format!("/{aside}/numbers")))?;
         self.must(204, "DELETE", &to, "")?;
         self.must(201, "MKCOL", &to, "")?;
+        self.must(201, "MKCOL", &self.at(&format!("/{aside}")), "")?;
         self.fill(aside)?;
-        self.dress()?;
-        self.compare()
+        let (own, items) = self.moved.items.split_at(1);
+        self.dress(items)?;
+        self.must(204, "DELETE", &self.at(&format!("/{aside}")), "")?;
+        self.dress(own)?;
+        self.compare(0)
+    }
+
+    /// Whether what is there was begun by an import and not ended: its folder for what waits is there, or nothing yet.
+    fn is_begun(&mut self, aside: &str) -> Made<bool> {
+        let (_, members) = list(self.asks, &self.to)?;
+        Ok(members.is_empty() || members.iter().any(|member| member.name().as_deref() == Some(aside.as_bytes())))
+    }
+
+    /// Ends an import that ended, or lacks but what is told of the folder itself: it may be in use, so nothing else is changed.
+    fn end(&mut self) -> Made<()> {
+        if self.compare(0).is_ok() {
+            return Ok(());
+        }
+        self.compare(1).map_err(|stop| match stop {
+            Stop::Refused(why) => Stop::Refused(format!("{} is there, and isn't what is imported; nothing was changed: {why}", self.to)),
+            stop => stop,
+        })?;
+        self.dress(&self.moved.items[..1])?;
+        self.compare(0)
     }
 }
 
