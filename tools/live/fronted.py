@@ -5,7 +5,7 @@ import re
 import subprocess
 import time
 
-from serving import TOP, ask, free_port
+from serving import TOP, ask, free_port, run
 
 
 def page():
@@ -50,6 +50,11 @@ class Proxy:
     def write(self, name, text):
         with open(f"{self.room}/{name}", "w", encoding="utf-8") as it:
             it.write(text)
+
+    def renew(self):
+        """Has nginx go by its files, as the page says: the status, and what was said."""
+        text = commands()[0].replace("/run/nginx.pid", f"{self.room}/pid")
+        return run(["bash", "-c", f'nginx() {{ command nginx -q -c {self.room}/nginx.conf "$@"; }}\n{text}\nrenew'])
 
     def end(self):
         self.process.terminate()
