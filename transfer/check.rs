@@ -1,5 +1,5 @@
 //! Says what a state has, and changes nothing.
-use crate::core::AskError;
+use crate::asking::AskError;
 use crate::http::internet_date;
 use crate::listing::{Entry, walk};
 use crate::state::Blocks;
@@ -47,7 +47,7 @@ fn told(folder: &Path, room: &Path, entries: &[Entry]) -> Result<String, Ended> 
 
 /// Checks the state of a folder by a start over a copy of it.
 pub fn check(words: &Words) -> Result<bool, Ended> {
-    let core = begin_copy(words, &["users", "access"])?;
+    let core = begin_copy(words, &["users", "access"], true)?;
     let entries = core.connect().map_err(AskError::from).and_then(|mut link| walk(&mut link, &words.top()));
     let status = core.end();
     match (entries, status) {

@@ -1,5 +1,6 @@
 //! The program that has the state, and connections to it: the same program that `serve` runs, over its standard input and output as the
 //! front has them (docs/SERVE.md, "How it is built"). Nobody else can reach it.
+use crate::asking::{AskError, Asks, Small};
 use crate::http::{Response, head_of};
 use std::collections::HashMap;
 use std::fs::File;
@@ -49,20 +50,6 @@ pub struct Core {
     begun: Instant,
     threads: Vec<JoinHandle<()>>,
     login: &'static str,
-}
-
-/// Why a request has no response.
-pub enum AskError {
-    /// What was to be sent can't be read; the request isn't run.
-    Body(io::Error),
-    /// The program has ended, or answered what is no HTTP.
-    Ended,
-}
-
-impl From<io::Error> for AskError {
-    fn from(_error: io::Error) -> AskError {
-        AskError::Ended
-    }
 }
 
 /// How a program is started.
@@ -195,15 +182,13 @@ pub struct Link<'c> {
     is_open: bool,
 }
 
-impl Link<'_> {
-    /// Makes a request with a body of so many bytes, and gives the response. The body is read as far as it is asked for: a request may be
-    /// refused by its head alone.
-    pub fn ask(&mut self, method: &str, path: &str, fields: &str, body: &mut dyn Read, length: u64) -> Result<Response, AskError> {
+impl Asks for Link<'_> {
+    fn ask(&mut self, method: &str, path: &str, fields: &str, body: &mut dyn Read, length: u64) -> Result<Response, AskError> {
         if !self.is_open {
             *self = self.core.connect()?;
         }
         let fields = format!("{}{fields}", self.core.login);
-        let mut piece = head_of(method, path, &fields, length);
+        let mut piece = head_of("localhost", method, path, &fields, length);
         let mut left = length;
         let mut answer = Vec::new();
         loop {
@@ -229,6 +214,24 @@ impl Link<'_> {
         }
     }
 
+    fn ask_all(&mut self, requests: &[Small]) -> Result<Vec<Response>, AskError> {
+        if !self.is_open {
+            *self = self.core.connect()?;
+        }
+        let texts: Vec<Vec<u8>> = requests.iter().map(|request| request.written("localhost", self.core.login)).collect();
+        let mut answers = Vec::new();
+        for piece in texts.concat().chunks(PIECE) {
+            self.core.report(self.slot, GOT, piece)?;
+            self.take(&mut answers)?;
+            if !self.is_open {
+                break;
+            }
+        }
+        Ok(Response::read_all(&answers)?)
+    }
+}
+
+impl Link<'_> {
     /// Takes what is ordered to be written, until there is something to read or the connection is closed.
     fn take(&mut self, answer: &mut Vec<u8>) -> io::Result<()> {
         loop {

@@ -1,6 +1,9 @@
 //! Writes all files of a state as plain files, with their times, and what clients stored as properties as one file of JSON beside.
-use crate::core::{AskError, Core, Link};
-use crate::listing::{Entry, walk};
+use crate::asking::{AskError, Asks};
+use crate::core::{Core, Link};
+use crate::json::quoted;
+use crate::listing::{Entry, list, walk};
+use crate::moved::{Item as Told, Moved, ORDER, PROPERTIES, beside};
 use crate::progress::Progress;
 use crate::workers::for_each;
 use crate::xml::Element;
@@ -48,7 +51,7 @@ fn places(entries: &[Entry], to: &Path, progress: &Progress) -> (Vec<Item>, Vec<
     (folders, files)
 }
 
-fn is_file_name(name: &[u8]) -> bool {
+pub fn is_file_name(name: &[u8]) -> bool {
     !matches!(name, b"" | b"." | b"..") && !name.contains(&b'/') && !name.contains(&0)
 }
 
@@ -75,21 +78,6 @@ fn get(link: &mut Link, item: &Item, progress: &Progress) -> Result<(), AskError
         Err(error) => progress.name(item.to.display(), error),
     }
     Ok(())
-}
-
-/// A text of JSON (RFC 8259, 7).
-fn quoted(text: &str) -> String {
-    let mut made = String::from("\"");
-    for character in text.chars() {
-        match character {
-            '"' => made.push_str("\\\""),
-            '\\' => made.push_str("\\\\"),
-            '\0'..='\x1f' => made.push_str(&format!("\\u{:04x}", character as u32)),
-            _ => made.push(character),
-        }
-    }
-    made.push('"');
-    made
 }
 
 fn line_of(href: &str, property: &Element) -> String {
@@ -131,31 +119,86 @@ fn transfer(core: &Core, folders: &[Item], files: &[Item], progress: &Progress) 
     Ok(())
 }
 
-/// Exports the state of a folder to another.
+/// What is exported, and of one folder what moves it.
+struct Found {
+    entries: Vec<Entry>,
+    moved: Option<Moved>,
+}
+
+/// Finds all there is; of one folder that is told besides what it is to be moved by. The state is a private copy.
+fn find(core: &Core, words: &Words) -> Result<Found, Ended> {
+    let failed = |_: AskError| Ended::of(2);
+    let mut link = core.connect().map_err(AskError::from).map_err(failed)?;
+    let Some(only) = &words.only else {
+        return walk(&mut link, &words.top()).map(|entries| Found { entries, moved: None }).map_err(failed);
+    };
+    let folder = words.folder_of(only);
+    let asked = link.ask("PROPFIND", &folder, "Depth: 0\r\n", &mut io::empty(), 0).map_err(failed)?;
+    let entries = if asked.status == 207 { walk(&mut link, &folder).map_err(failed)? } else { Vec::new() };
+    if !entries.first().is_some_and(|entry| entry.is_folder) {
+        return Err(Ended::Refused(format!("{}: there is no folder '{only}' at its top", words.folder)));
+    }
+    let locked: Vec<&str> = entries.iter().filter(|entry| !entry.tokens.is_empty()).map(|entry| &entry.href[..]).collect();
+    if !locked.is_empty() && !words.without_locks {
+        let why = "is locked, and locks aren't exported: end the locks, or leave them out by --without-locks";
+        return Err(Ended::Refused(format!("{} ({} in all) {why}", locked[0], locked.len())));
+    }
+    let items: Option<Vec<Told>> = entries.iter().map(|entry| Told::of(entry, &folder)).collect();
+    let mut moved = Moved::new(&folder, 0, 0, items.ok_or(Ended::of(2))?);
+    // What the next change takes: no tag that was told of the folder, or will be of what is there, is as late, and no date later.
+    let next = format!("{folder}/{}", moved.free_name());
+    link.ask("PUT", &next, "", &mut io::empty(), 0).map_err(failed)?;
+    let next = list(&mut link, &next).map_err(failed)?.0;
+    moved.past = next.number;
+    moved.moment = next.modified.ok_or(Ended::of(2))?;
+    Ok(Found { entries, moved: Some(moved) })
+}
+
+/// Where the folder comes that is exported, which is made where it isn't the one of the export.
+fn place_of(to: &Path, words: &Words) -> Result<PathBuf, Ended> {
+    match &words.only {
+        None => Ok(to.to_path_buf()),
+        Some(only) => {
+            let place = to.join(only);
+            fs::create_dir(&place).map_err(|error| Ended::refused(&place, error))?;
+            Ok(place)
+        }
+    }
+}
+
+/// Exports the state of a folder to another, or one folder of it.
 pub fn export(words: &Words) -> Result<bool, Ended> {
     let to = PathBuf::from(words.other.trim_end_matches('/'));
-    let mut name = to.clone().into_os_string();
-    name.push(".properties.json");
+    let (name, order) = (beside(&to, PROPERTIES), beside(&to, ORDER));
     make_empty(&to)?;
-    let properties = File::create_new(&name).map_err(|error| Ended::refused(Path::new(&name), error))?;
-    let core = begin_copy(words, &[])?;
-    let entries = match core.connect().map_err(AskError::from).and_then(|mut link| walk(&mut link, &words.top())) {
-        Ok(entries) => entries,
-        Err(_) => {
+    if words.only.is_some() && order.exists() {
+        return Err(Ended::Refused(format!("{} is there already", order.display())));
+    }
+    let properties = File::create_new(&name).map_err(|error| Ended::refused(&name, error))?;
+    let core = begin_copy(words, &[], words.only.is_none())?;
+    let found = match find(&core, words) {
+        Ok(found) => found,
+        Err(ended) => {
             let _ = fs::remove_file(&name);
-            return Err(Ended::of(core.end()));
+            let status = core.end();
+            return Err(if matches!(ended, Ended::Refused(_)) { ended } else { Ended::of(status) });
         }
     };
+    let entries = &found.entries;
     let (count, bytes) = entries.iter().filter(|entry| !entry.is_folder).fold((0, 0), |(count, bytes), file| (count + 1, bytes + file.size));
     let progress = Progress::new(count, bytes);
-    let (folders, files) = places(&entries, &to, &progress);
+    let (folders, files) = places(entries, &place_of(&to, words)?, &progress);
     let done = progress.during(|| transfer(&core, &folders, &files, &progress));
     let status = core.end();
     if done.is_err() || status != 0 {
         return Err(Ended::of(status));
     }
-    let count = write_properties(&entries, properties).map_err(|error| Ended::refused(Path::new(&name), error))?;
-    say(&format!("exported {}; {count} properties are in {}\n", progress.counts(folders.len() - 1), Path::new(&name).display()));
+    let count = write_properties(entries, properties).map_err(|error| Ended::refused(&name, error))?;
+    if let Some(moved) = found.moved.filter(|_| progress.named() == 0) {
+        let written = File::create_new(&order).and_then(|file| moved.write(BufWriter::new(file)));
+        written.map_err(|error| Ended::refused(&order, error))?;
+    }
+    say(&format!("exported {}; {count} properties are in {}\n", progress.counts(folders.len() - 1), name.display()));
     Ok(progress.named() == 0)
 }
 
@@ -164,9 +207,7 @@ mod tests {
     use super::*;
 
     #[test]
-    fn json() {
-        // RFC 8259, 7: what has to be escaped.
-        assert_eq!(quoted("a\"\\\u{1}\nü/"), "\"a\\\"\\\\\\u0001\\u000aü/\"");
+    fn lines() {
         let element = Element::read("<x:a xmlns:x=\"u\">\"</x:a>").unwrap();
         assert_eq!(line_of("/b%20c", &element), r#"{"path": "/b%20c", "namespace": "u", "name": "a", "xml": "<x:a xmlns:x=\"u\">&quot;</x:a>"}"#);
     }

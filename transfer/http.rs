@@ -1,32 +1,97 @@
 //! Requests and responses of HTTP/1.1 (RFC 9112), as this client of one server needs them; paths of URLs; dates.
+use std::ffi::OsStr;
 use std::io::{self, ErrorKind};
 use std::os::unix::ffi::OsStrExt;
 
 pub struct Response {
     pub status: u16,
+    /// The lines of its head, the first one too.
+    pub head: String,
     pub body: Vec<u8>,
 }
 
 impl Response {
     /// The response in these bytes.
     pub fn read(mut bytes: Vec<u8>) -> io::Result<Response> {
+        let (mut response, end) = Response::begun(&bytes)?;
+        response.body = bytes.split_off(end);
+        Ok(response)
+    }
+
+    /// The response with which these bytes begin, without its body, and where that begins.
+    pub fn begun(bytes: &[u8]) -> io::Result<(Response, usize)> {
         let end = bytes.windows(4).position(|four| four == b"\r\n\r\n");
         let head = end.and_then(|end| std::str::from_utf8(&bytes[..end]).ok());
         let status = head.and_then(|head| head.split(' ').nth(1)).and_then(|word| word.parse().ok());
-        match (end, status) {
-            (Some(end), Some(status)) => Ok(Response { status, body: bytes.split_off(end + 4) }),
-            _ => Err(io::Error::new(ErrorKind::InvalidData, "the program's answer is none of HTTP")),
+        match (end, head, status) {
+            (Some(end), Some(head), Some(status)) => Ok((Response { status, head: head.to_string(), body: Vec::new() }, end + 4)),
+            _ => Err(io::Error::new(ErrorKind::InvalidData, "the answer is none of HTTP")),
         }
+    }
+
+    /// The responses in these bytes, one after another, each of the length that it tells.
+    pub fn read_all(mut bytes: &[u8]) -> io::Result<Vec<Response>> {
+        let mut found = Vec::new();
+        while !bytes.is_empty() {
+            let (mut response, end) = Response::begun(bytes)?;
+            let body = bytes.get(end..end + response.length()?).ok_or(ErrorKind::UnexpectedEof)?;
+            response.body = body.to_vec();
+            bytes = &bytes[end + body.len()..];
+            found.push(response);
+        }
+        Ok(found)
+    }
+
+    /// The value of a field of its head (RFC 9110, 6.3).
+    pub fn field(&self, name: &str) -> Option<&str> {
+        let fields = self.head.lines().skip(1).filter_map(|line| line.split_once(':'));
+        fields.filter(|(told, _)| told.eq_ignore_ascii_case(name)).map(|(_, value)| value.trim()).next()
+    }
+
+    /// The bytes of its body (RFC 9112, 6.3).
+    pub fn length(&self) -> io::Result<usize> {
+        if self.field("Transfer-Encoding").is_some() {
+            return Err(io::Error::new(ErrorKind::InvalidData, "the answer is in chunks, which this client doesn't read"));
+        }
+        match self.field("Content-Length") {
+            Some(text) => text.parse().map_err(|_| io::Error::new(ErrorKind::InvalidData, "the answer has no length")),
+            None => Ok(0),
+        }
+    }
+
+    /// Whether the connection ends with it (RFC 9112, 9.6).
+    pub fn ends(&self) -> bool {
+        self.field("Connection").is_some_and(|value| value.eq_ignore_ascii_case("close"))
     }
 }
 
-/// The head of a request with these further fields, each with its end.
-pub fn head_of(method: &str, path: &str, fields: &str, length: u64) -> Vec<u8> {
-    format!("{method} {path} HTTP/1.1\r\nHost: localhost\r\nContent-Length: {length}\r\n{fields}\r\n").into_bytes()
+/// The head of a request to this host with these further fields, each with its end.
+pub fn head_of(host: &str, method: &str, path: &str, fields: &str, length: u64) -> Vec<u8> {
+    format!("{method} {path} HTTP/1.1\r\nHost: {host}\r\nContent-Length: {length}\r\n{fields}\r\n").into_bytes()
+}
+
+/// A path with each segment as `segment_of` writes it; none where a `%` has no two digits.
+pub fn path_of(path: &str) -> Option<String> {
+    let segments = path.split('/').map(|segment| Some(segment_of(OsStr::from_bytes(&name_of(segment)?))));
+    Some(segments.collect::<Option<Vec<_>>>()?.join("/"))
+}
+
+/// Bytes by base64 (RFC 4648, 4).
+pub fn base64_of(bytes: &[u8]) -> String {
+    const LETTERS: &[u8; 64] = b"ABCDEFGHIJKLMNOPQRSTUVWXYZabcdefghijklmnopqrstuvwxyz0123456789+/";
+    let mut text = String::new();
+    for three in bytes.chunks(3) {
+        let word = three.iter().fold(0u32, |word, byte| word << 8 | u32::from(*byte)) << (8 * (3 - three.len()));
+        for place in 0..4 {
+            let letter = LETTERS[(word >> (18 - 6 * place) & 63) as usize];
+            text.push(if place <= three.len() { char::from(letter) } else { '=' });
+        }
+    }
+    text
 }
 
 /// A name as a segment of a URL's path (RFC 3986, 3.3).
-pub fn segment_of(name: &std::ffi::OsStr) -> String {
+pub fn segment_of(name: &OsStr) -> String {
     let mut text = String::new();
     for byte in name.as_bytes() {
         match byte {
@@ -107,7 +172,6 @@ pub fn internet_date(moment: u64) -> String {
 #[cfg(test)]
 mod tests {
     use super::*;
-    use std::ffi::OsStr;
 
     #[test]
     fn dates() {
@@ -135,6 +199,8 @@ mod tests {
         assert_eq!(name_of("a%20b%2f%C3%BC%25.txt").unwrap(), "a b/ü%.txt".as_bytes());
         assert_eq!(name_of("a%2"), None);
         assert_eq!(name_of("a%zz"), None);
+        assert_eq!(path_of("/a(b)/%63/%2f").unwrap(), "/a%28b%29/c/%2F");
+        assert_eq!(path_of("/a%2"), None);
     }
 
     #[test]
@@ -143,5 +209,19 @@ mod tests {
         assert_eq!((told.status, &told.body[..]), (200, &b"one"[..]));
         assert!(Response::read(b"HTTP/1.1 200 OK\r\n".to_vec()).is_err());
         assert!(Response::read(b"no\r\n\r\n".to_vec()).is_err());
+        let two = b"HTTP/1.1 201 Created\r\nETag: \"a1\"\r\ncontent-length: 0\r\n\r\nHTTP/1.1 200 OK\r\nContent-Length: 2\r\nconnection: close\r\n\r\nok";
+        let told = Response::read_all(two).unwrap();
+        assert_eq!((told.len(), told[0].field("etag"), &told[1].body[..], told[0].ends(), told[1].ends()), (2, Some("\"a1\""), &b"ok"[..], false, true));
+        assert!(Response::read_all(&two[..two.len() - 1]).is_err());
+        assert!(Response::read_all(b"HTTP/1.1 200 OK\r\nTransfer-Encoding: chunked\r\n\r\n0\r\n\r\n").is_err());
+    }
+
+    #[test]
+    fn base64() {
+        // RFC 4648, 10; RFC 7617, 2.
+        for (bytes, text) in [("", ""), ("f", "Zg=="), ("fo", "Zm8="), ("foo", "Zm9v"), ("foob", "Zm9vYg=="), ("fooba", "Zm9vYmE="), ("foobar", "Zm9vYmFy")] {
+            assert_eq!(base64_of(bytes.as_bytes()), text);
+        }
+        assert_eq!(base64_of(b"Aladdin:open sesame"), "QWxhZGRpbjpvcGVuIHNlc2FtZQ==");
     }
 }

@@ -1,10 +1,15 @@
 //! Fills an empty state from plain files: names, bytes and times.
-use crate::core::{AskError, Core, Link, Start};
-use crate::http::{http_date, segment_of};
+use crate::asking::{AskError, Asks};
+use crate::client::{Client, Site};
+use crate::core::{Core, Link, Start};
+use crate::http::{http_date, path_of, segment_of};
 use crate::listing::list;
+use crate::making::{Making, Stop};
+use crate::moved::Moved;
 use crate::progress::Progress;
 use crate::workers::for_each;
 use crate::{Ended, Words, say};
+use std::collections::HashMap;
 use std::fs::{self, DirBuilder, File, Metadata};
 use std::io::{self, Read};
 use std::os::unix::fs::{DirBuilderExt, MetadataExt};
@@ -66,7 +71,7 @@ fn told(asked: Result<u16, AskError>, item: &Item, progress: &Progress) -> Resul
         Ok(201 | 204 | 207) => return Ok(true),
         Ok(status) => progress.name(item.from.display(), reason(status)),
         Err(AskError::Body(error)) => progress.name(item.from.display(), error),
-        Err(AskError::Ended) => return Err(AskError::Ended),
+        Err(error) => return Err(error),
     }
     Ok(false)
 }
@@ -153,33 +158,38 @@ fn transfer(core: &Core, items: &Items, own: &Item, progress: &Progress) -> Resu
     Ok(true)
 }
 
+/// Starts the program that has the state, to fill it. No snapshot meanwhile: the journal has each file once as it is.
+fn begin(words: &Words) -> Result<Core, Ended> {
+    let folder = Path::new(&words.folder);
+    DirBuilder::new().recursive(true).mode(0o700).create(folder).map_err(|error| Ended::refused(folder, error))?;
+    let is_within = match (Path::new(&words.other).canonicalize(), folder.canonicalize()) {
+        (Ok(from), Ok(folder)) => folder.starts_with(from),
+        _ => false,
+    };
+    if is_within {
+        return Err(Ended::Refused(format!("the state in {} is itself in {}", folder.display(), words.other)));
+    }
+    let mut options = words.options.clone();
+    options.extend(["--snapshot-past".to_string(), u64::MAX.to_string()]);
+    let start = Start { program: &words.program, folder: &words.folder, options: &options, said_of: &words.folder, as_owner: true, own_login: true };
+    Core::start(&start).map_err(|error| Ended::refused(Path::new(&words.program), error))
+}
+
 /// Imports a folder into the state of another.
 pub fn import(words: &Words) -> Result<bool, Ended> {
     let (from, folder) = (Path::new(&words.other), Path::new(&words.folder));
     if !from.is_dir() {
         return Err(Ended::Refused(format!("{} is no folder", from.display())));
     }
-    DirBuilder::new().recursive(true).mode(0o700).create(folder).map_err(|error| Ended::refused(folder, error))?;
-    let is_within = match (from.canonicalize(), folder.canonicalize()) {
-        (Ok(from), Ok(folder)) => folder.starts_with(from),
-        _ => false,
-    };
-    if is_within {
-        return Err(Ended::Refused(format!("the state in {} is itself in {}", folder.display(), from.display())));
-    }
     let top = words.top();
     let mut items = Items::default();
     items.collect(from, &top, 0);
     let own = Item { from: from.to_path_buf(), href: top.clone(), depth: 0, size: 0, modified: from.metadata().map_or(-1, |told| told.mtime()) };
     let progress = Progress::new(items.files.len() as u64, items.files.iter().map(|file| file.size).sum());
+    let core = begin(words)?;
     for (path, why) in &items.others {
         progress.name(path.display(), why);
     }
-    // No snapshot meanwhile: the journal has each file once as it is.
-    let mut options = words.options.clone();
-    options.extend(["--snapshot-past".to_string(), u64::MAX.to_string()]);
-    let start = Start { program: &words.program, folder: &words.folder, options: &options, said_of: &words.folder, as_owner: true, own_login: true };
-    let core = Core::start(&start).map_err(|error| Ended::refused(Path::new(&words.program), error))?;
     let done = progress.during(|| transfer(&core, &items, &own, &progress));
     let status = core.end();
     if status != 0 {
@@ -192,5 +202,68 @@ pub fn import(words: &Words) -> Result<bool, Ended> {
         }
         Ok(false) => Err(Ended::Refused(format!("the state in {} has files; an import fills an empty one", folder.display()))),
         Err(_) => Err(Ended::Program(2)),
+    }
+}
+
+/// Sees that the files of an export are those that it tells of, each with its length.
+fn is_whole(moved: &Moved, from: &Path) -> Result<(), Ended> {
+    let mut found = Items::default();
+    found.collect(from, "/", 0);
+    if let Some((path, why)) = found.others.first() {
+        return Err(Ended::refused(path, why));
+    }
+    let path_of = |item: &Item| path_of(item.href.trim_end_matches('/'));
+    let told: HashMap<_, _> = moved.items.iter().skip(1).map(|item| (Some(item.path.clone()), (item.is_folder, item.size))).collect();
+    let there = found.folders.iter().map(|item| (item, true)).chain(found.files.iter().map(|item| (item, false)));
+    for (item, is_folder) in there {
+        if told.get(&path_of(item)) != Some(&(is_folder, item.size)) {
+            return Err(Ended::refused(&item.from, "it isn't what was exported"));
+        }
+    }
+    if found.folders.len() + found.files.len() != told.len() {
+        return Err(Ended::refused(from, "some of what was exported isn't there"));
+    }
+    Ok(())
+}
+
+/// Imports one folder of another state, which was exported, into a state that has others, or at a server that is up.
+pub fn import_moved(words: &Words) -> Result<bool, Ended> {
+    let (from, only) = (Path::new(words.other.trim_end_matches('/')), words.only.as_deref().unwrap_or(""));
+    let moved = Moved::beside(from).map_err(Ended::Refused)?;
+    if moved.name().as_deref() != Some(only.as_bytes()) {
+        return Err(Ended::refused(from, format!("it is an export of {}, and not of '{only}'", moved.folder)));
+    }
+    let files = from.join(only);
+    is_whole(&moved, &files)?;
+    let all = moved.items.iter().filter(|item| !item.is_folder);
+    let progress = Progress::new(all.clone().count() as u64, all.map(|file| file.size).sum());
+    let make = |asks: &mut dyn Asks, prefix: &str| {
+        let to = format!("{prefix}/{}", segment_of(only.as_ref()));
+        progress.during(|| Making { asks, to, moved: &moved, from: &files, progress: &progress }.make(words.again))
+    };
+    let (made, status) = match &words.to {
+        Some(url) => {
+            let site = Site::read(url, words.login.as_deref()).map_err(Ended::Refused)?;
+            (make(&mut Client::new(&site), &site.prefix), 0)
+        }
+        None => {
+            let core = begin(words)?;
+            let made = match core.connect() {
+                Ok(mut link) => make(&mut link, words.top().trim_end_matches('/')),
+                Err(error) => Err(Stop::Asking(error.into())),
+            };
+            (made, core.end())
+        }
+    };
+    let place = words.to.as_deref().unwrap_or(&words.folder);
+    match made {
+        Ok(()) if status == 0 => {
+            let folders = moved.items.iter().filter(|item| item.is_folder).count() - 1;
+            say(&format!("imported {}, with all that clients stored, in the order of their tags\n", progress.counts(folders)));
+            Ok(true)
+        }
+        Err(Stop::Refused(why)) => Err(Ended::Refused(format!("{place}: {why}"))),
+        Err(Stop::Asking(AskError::Lost(error))) => Err(Ended::Refused(format!("{place}: {error}; begin it again with --again"))),
+        _ => Err(Ended::of(status)),
     }
 }

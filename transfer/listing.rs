@@ -1,6 +1,6 @@
 //! What a folder of the server has, by a PROPFIND of Depth 1 (RFC 4918, 9.1).
-use crate::core::{AskError, Link};
-use crate::http::{moment_of, name_of};
+use crate::asking::{AskError, Asks};
+use crate::http::{moment_of, name_of, path_of};
 use crate::xml::Element;
 use std::io;
 
@@ -14,6 +14,8 @@ pub struct Entry {
     pub href: String,
     pub is_folder: bool,
     pub size: u64,
+    /// The number of its entity tag, which is written in hexadecimal digits between quotation marks.
+    pub number: u64,
     /// When it was last changed, in seconds since 1970.
     pub modified: Option<u64>,
     /// The tokens of its locks, and of those on folders above.
@@ -25,7 +27,7 @@ pub struct Entry {
 impl Entry {
     fn read(mut response: Element) -> Option<Entry> {
         let href = response.first("href")?.text();
-        let mut entry = Entry { href, is_folder: false, size: 0, modified: None, tokens: Vec::new(), dead: Vec::new() };
+        let mut entry = Entry { href, is_folder: false, size: 0, number: 0, modified: None, tokens: Vec::new(), dead: Vec::new() };
         for mut stat in response.take_all("propstat") {
             for property in stat.take_all("prop").into_iter().flat_map(Element::into_elements) {
                 entry.take(property);
@@ -42,6 +44,7 @@ impl Entry {
         match property.name.as_str() {
             "resourcetype" => self.is_folder = property.first("collection").is_some(),
             "getcontentlength" => self.size = property.text().parse().unwrap_or(0),
+            "getetag" => self.number = u64::from_str_radix(property.text().trim_matches('"'), 16).unwrap_or(0),
             "getlastmodified" => self.modified = moment_of(&property.text()),
             "lockdiscovery" => {
                 let tokens = property.all("activelock").filter_map(|lock| lock.first("locktoken"));
@@ -57,8 +60,13 @@ impl Entry {
     }
 }
 
+/// Whether two paths are of one resource, however their segments are escaped.
+fn is_same(one: &str, other: &str) -> bool {
+    path_of(one.trim_end_matches('/')) == path_of(other.trim_end_matches('/'))
+}
+
 /// The folder at a path, and what is right in it.
-pub fn list(link: &mut Link, href: &str) -> Result<(Entry, Vec<Entry>), AskError> {
+pub fn list(link: &mut dyn Asks, href: &str) -> Result<(Entry, Vec<Entry>), AskError> {
     let response = link.ask("PROPFIND", href, "Depth: 1\r\n", &mut io::empty(), 0)?;
     let text = String::from_utf8(response.body).ok().filter(|_| response.status == 207);
     let mut root = text.and_then(|text| Element::read(&text)).ok_or(AskError::Ended)?;
@@ -66,13 +74,13 @@ pub fn list(link: &mut Link, href: &str) -> Result<(Entry, Vec<Entry>), AskError
     for response in root.take_all("response") {
         entries.push(Entry::read(response).ok_or(AskError::Ended)?);
     }
-    let own = entries.iter().position(|entry| entry.href.trim_end_matches('/') == href.trim_end_matches('/')).ok_or(AskError::Ended)?;
+    let own = entries.iter().position(|entry| is_same(&entry.href, href)).ok_or(AskError::Ended)?;
     let folder = entries.remove(own);
     Ok((folder, entries))
 }
 
 /// All folders and files from a path on, a folder before what is in it.
-pub fn walk(link: &mut Link, top: &str) -> Result<Vec<Entry>, AskError> {
+pub fn walk(link: &mut dyn Asks, top: &str) -> Result<Vec<Entry>, AskError> {
     let mut found = Vec::new();
     let mut folders = vec![top.to_string()];
     while let Some(href) = folders.pop() {

@@ -4,14 +4,19 @@
 //! and a check of a private copy. So what a file is, and which state is damaged, is said in one place. A copy alone reads blocks by itself.
 #![forbid(unsafe_code)]
 
+mod asking;
 mod check;
+mod client;
 mod copy;
 mod core;
 mod digest;
 mod export;
 mod http;
 mod import;
+mod json;
 mod listing;
+mod making;
+mod moved;
 mod progress;
 mod state;
 mod workers;
@@ -43,6 +48,7 @@ impl Ended {
 }
 
 /// What is asked for.
+#[derive(Default)]
 pub struct Words {
     /// The program that has the state, and the folder of the state.
     pub program: String,
@@ -51,6 +57,14 @@ pub struct Words {
     pub room: String,
     /// The folder of plain files, if it takes one.
     pub other: String,
+    /// The one first folder that is meant, if not all are.
+    pub only: Option<String>,
+    /// The URL of a server that takes it, and a file with a login there.
+    pub to: Option<String>,
+    pub login: Option<String>,
+    /// Whether an import goes on with what an earlier one left, and whether an export leaves locks out.
+    pub again: bool,
+    pub without_locks: bool,
     /// The prefix, with its segments as in a URL.
     prefix: String,
     /// The options of the program.
@@ -62,6 +76,11 @@ impl Words {
     pub fn top(&self) -> String {
         format!("{}/", self.prefix)
     }
+
+    /// The path of a first folder.
+    pub fn folder_of(&self, name: &str) -> String {
+        format!("{}/{}", self.prefix, http::segment_of(name.as_ref()))
+    }
 }
 
 /// Says something on standard output. Where nobody reads it, nobody can be told so.
@@ -71,11 +90,12 @@ pub fn say(text: &str) {
 
 fn usage() -> ! {
     eprintln!("usage: transfer import|export|check|copy PROGRAM FOLDER ROOM [OTHER] [--prefix /PATH] [--body BYTES] [--at SECONDS] [--rate BYTES]");
+    eprintln!("       [--only NAME] [--to URL] [--login FILE] [--again yes] [--without-locks yes]");
     exit(1)
 }
 
-/// Copies the state to the room, with these other files, and starts the program over the copy. It is only read.
-fn begin_copy(words: &Words, others: &[&str]) -> Result<Core, Ended> {
+/// Copies the state to the room, with these other files, and starts the program over the copy, which may be only to be read.
+fn begin_copy(words: &Words, others: &[&str], is_read: bool) -> Result<Core, Ended> {
     let (folder, room) = (Path::new(&words.folder), Path::new(&words.room));
     let others = [&["state.begun"], others].concat();
     match state::copy(folder, room, &others) {
@@ -84,7 +104,10 @@ fn begin_copy(words: &Words, others: &[&str]) -> Result<Core, Ended> {
         Err(error) => return Err(Ended::refused(folder, error)),
     }
     let mut options = words.options.clone();
-    options.extend(["--read-only".to_string(), "--snapshot-past".to_string(), u64::MAX.to_string()]);
+    options.extend(["--snapshot-past".to_string(), u64::MAX.to_string()]);
+    if is_read {
+        options.push("--read-only".to_string());
+    }
     let start = Start { program: &words.program, folder: &words.room, options: &options, said_of: &words.folder, as_owner: false, own_login: true };
     Core::start(&start).map_err(|error| Ended::refused(Path::new(&words.program), error))
 }
@@ -92,17 +115,26 @@ fn begin_copy(words: &Words, others: &[&str]) -> Result<Core, Ended> {
 fn read_words(mut words: impl Iterator<Item = String>) -> (String, Words) {
     let mut next = || words.next().unwrap_or_else(|| usage());
     let command = next();
-    let mut told = Words { program: next(), folder: next(), room: next(), other: String::new(), prefix: String::new(), options: Vec::new() };
+    let mut told = Words { program: next(), folder: next(), room: next(), ..Words::default() };
     if command != "check" {
         told.other = next();
     }
     while let Some(name) = words.next() {
         let value = words.next().unwrap_or_else(|| usage());
-        if name == "--prefix" {
-            let segments = value.split('/').filter(|segment| !segment.is_empty());
-            told.prefix = segments.map(|segment| format!("/{}", http::segment_of(segment.as_ref()))).collect();
+        match name.as_str() {
+            "--only" => told.only = Some(value),
+            "--to" => told.to = Some(value),
+            "--login" => told.login = Some(value),
+            "--again" => told.again = true,
+            "--without-locks" => told.without_locks = true,
+            _ => {
+                if name == "--prefix" {
+                    let segments = value.split('/').filter(|segment| !segment.is_empty());
+                    told.prefix = segments.map(|segment| format!("/{}", http::segment_of(segment.as_ref()))).collect();
+                }
+                told.options.extend([name, value]);
+            }
         }
-        told.options.extend([name, value]);
     }
     (command, told)
 }
@@ -110,6 +142,7 @@ fn read_words(mut words: impl Iterator<Item = String>) -> (String, Words) {
 fn main() {
     let (command, words) = read_words(std::env::args().skip(1));
     let done = match command.as_str() {
+        "import" if words.only.is_some() => import::import_moved(&words),
         "import" => import::import(&words),
         "export" => export::export(&words),
         "check" => check::check(&words),

@@ -1,5 +1,6 @@
 //! Work on many things by some threads, each with a connection of its own: so requests share a sync of the disk.
-use crate::core::{AskError, Core, Link};
+use crate::asking::AskError;
+use crate::core::{Core, Link};
 use std::sync::Mutex;
 use std::thread;
 
