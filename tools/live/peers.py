@@ -28,6 +28,7 @@ LoadModule dav_module {modules}/mod_dav.so
 LoadModule dav_fs_module {modules}/mod_dav_fs.so
 KeepAlive On
 MaxKeepAliveRequests 0
+MaxSpareThreads 400
 LimitRequestBody 0
 DocumentRoot {folder}/files
 DavLockDB {folder}/locks/db
@@ -58,7 +59,9 @@ include_shell "/usr/share/lighttpd/create-mime.conf.pl"
 webdav.activate = "enable"
 webdav.sqlite-db-name = "{folder}/locks/db"
 """
+NGINX_LISTS = "/usr/lib/nginx/modules/ngx_http_dav_ext_module.so"  # its PROPFIND, of Debian's libnginx-mod-http-dav-ext
 NGINX = """
+{load}
 daemon off;
 pid {folder}/pid;
 error_log {folder}/errors;
@@ -68,7 +71,10 @@ events {{ worker_connections 4096; }}
 http {{
     access_log off;
     keepalive_requests 1000000000;
+    client_max_body_size 0;
     client_body_temp_path {folder}/locks;
+    dav_methods PUT DELETE MKCOL COPY MOVE;
+    {lists}
     server {{ listen 127.0.0.1:{port}; root {folder}/files; }}
 }}
 """
@@ -128,10 +134,11 @@ def lighttpd(folder):
 
 
 def nginx(folder):
-    """nginx, which gives files, or why there is none."""
+    """nginx with its module dav, and with PROPFIND where that can be had, or why there is none."""
     if not os.path.exists("/usr/sbin/nginx"):
         return "nginx: no /usr/sbin/nginx"
-    port = configured(folder, NGINX, pwd.getpwuid(os.getuid()).pw_name)
+    load, lists = (f"load_module {NGINX_LISTS};", "dav_ext_methods PROPFIND;") if os.path.exists(NGINX_LISTS) else ("", "")
+    port = configured(folder, NGINX, pwd.getpwuid(os.getuid()).pw_name, load=load, lists=lists)
     return Program(port, ["/usr/sbin/nginx", "-p", folder, "-c", f"{folder}/conf"])
 
 

@@ -1,14 +1,17 @@
-//! The client of tools/bench/http: keeps connections alive, one thread for each, and counts what is answered.
+//! The client of tools/live/bench: keeps connections alive, one thread for each, and counts what is answered.
 //!
-//!     client PORT put|get CONNECTIONS WARM MEASURED     files of 1,024 bytes; WARM and MEASURED are milliseconds
-//!     client PORT all|four CONNECTIONS WARM MEASURED    PROPFIND of Depth 1 of /list/: all properties, or four by name
+//!     client PORT put|get CONNECTIONS WARM MEASURED      files of 1,024 bytes; WARM and MEASURED are milliseconds
+//!     client PORT all|four CONNECTIONS WARM MEASURED     PROPFIND of Depth 1 of /list/: all properties, or four by name
 //!     client PORT middle|part CONNECTIONS WARM MEASURED  a file of 65,536 bytes, or as many of /large, which has 100,000,000, from 100 places
-//!     client PORT beside CONNECTIONS WARM MEASURED      small files, while one more connection lists all properties of /listed/
-//!     client PORT up|down BYTES                         one file of so many bytes
-//!     client PORT hollow                                a server that answers each request alike: what client and kernel can do
+//!     client PORT beside CONNECTIONS WARM MEASURED       small files, while one more connection lists all properties of /listed/
+//!     client PORT up|down CONNECTIONS BYTES TIMES        /large, of so many bytes, so many times on each connection
+//!     client PORT fill FOLDER COUNT                      COUNT files of 100 bytes into a folder, on eight connections
+//!     client PORT listing FOLDER                         PROPFIND of Depth 1 of a folder, all properties, once
+//!     client PORT hollow                                 a server that answers each request alike: what client and kernel can do
 //!
 //! Prints `ANSWERED SECONDS IN_ALL MIDDLE LATE`: requests answered while it measured, for how long, and with those of the warming up; and in how many
-//! microseconds the half of them was answered, and 99 of 100. Of up and down `BYTES SECONDS BYTES 0 0`. A reply that isn't as it should be
+//! microseconds the half of them was answered, and 99 of 100. Of up and down the first and the third are bytes; of listing `BYTES` of the reply's
+//! body alone, of fill nothing. A connection that the server closes between two requests is opened anew. A reply that isn't as it should be
 //! ends it with status 1.
 #![forbid(unsafe_code)]
 
@@ -30,9 +33,15 @@ const MIDDLE: usize = 65_536;
 const FOUR: &str = "<?xml version=\"1.0\" encoding=\"utf-8\"?><D:propfind xmlns:D=\"DAV:\"><D:prop><D:getetag/><D:getcontentlength/>\
     <D:getlastmodified/><D:resourcetype/></D:prop></D:propfind>";
 
+/// The bytes of a file that fills a folder, and on how many connections these are put.
+const MEMBER: usize = 100;
+const FILLING: usize = 8;
+
 /// A connection, and what was read of it.
 struct Link {
     stream: TcpStream,
+    /// Whether the server closes it after its last reply.
+    closes: bool,
     buffer: Vec<u8>,
     /// The bytes of the buffer that aren't used yet.
     from: usize,
@@ -48,6 +57,10 @@ struct Said {
 
 fn wrong(what: &str) -> io::Error {
     io::Error::new(io::ErrorKind::InvalidData, what.to_owned())
+}
+
+fn is_closed(error: &io::Error) -> bool {
+    matches!(error.kind(), io::ErrorKind::UnexpectedEof | io::ErrorKind::ConnectionReset | io::ErrorKind::BrokenPipe)
 }
 
 fn find(bytes: &[u8], what: &[u8]) -> Option<usize> {
@@ -70,7 +83,7 @@ impl Link {
     }
 
     fn of(stream: TcpStream) -> Link {
-        Link { stream, buffer: vec![0; 1 << 18], from: 0, to: 0 }
+        Link { stream, closes: false, buffer: vec![0; 1 << 18], from: 0, to: 0 }
     }
 
     /// Reads once; what is used already makes room.
@@ -141,12 +154,25 @@ impl Link {
             None if status == 204 => 0,
             None => return Err(wrong(&head)),
         };
+        self.closes = field(&head, "connection").is_some_and(|told| told.eq_ignore_ascii_case("close"));
         Ok(Said { status, length })
     }
 
-    fn ask(&mut self, request: &[u8]) -> io::Result<Said> {
+    fn send(&mut self, request: &[u8]) -> io::Result<Said> {
         self.stream.write_all(request)?;
         self.reply()
+    }
+
+    /// Sends a request and reads its reply; once more on a new connection, where the server closed this one after an earlier reply.
+    fn ask(&mut self, port: u16, request: &[u8]) -> io::Result<Said> {
+        if !self.closes {
+            match self.send(request) {
+                Err(error) if is_closed(&error) && self.from == self.to => {}
+                said => return said,
+            }
+        }
+        *self = Link::open(port)?;
+        self.send(request)
     }
 }
 
@@ -212,7 +238,7 @@ fn drive(port: u16, what: &str, connection: usize, phases: &Phases) -> io::Resul
             break;
         }
         let begin = Instant::now();
-        let said = link.ask(bytes)?;
+        let said = link.ask(port, bytes)?;
         if !is_right(what, &said) {
             return Err(wrong(&format!("{what} was answered {} with {} bytes", said.status, said.length)));
         }
@@ -243,27 +269,77 @@ fn measure(port: u16, what: &'static str, connections: usize, warming: Duration,
     let seconds = begin.elapsed().as_secs_f64();
     let counted: Vec<Counted> = threads.into_iter().map(|thread| thread.join().unwrap()).collect();
     others.into_iter().for_each(|thread| drop(thread.join()));
-    let mut times: Vec<u32> = counted.iter().flat_map(|one| one.times.iter().copied()).collect();
-    times.sort_unstable();
+    let times: Vec<u32> = counted.iter().flat_map(|one| one.times.iter().copied()).collect();
     let total: u64 = counted.iter().map(|one| one.total).sum();
-    let time = |percent: usize| times.get((times.len() * percent / 100).min(times.len().saturating_sub(1))).copied().unwrap_or(0);
-    println!("{} {seconds:.6} {total} {} {}", times.len(), time(50), time(99));
+    tell(times.len(), seconds, total, times);
     Ok(())
 }
 
-/// Sends a large file up, or gets it.
-fn move_large(port: u16, up: bool, size: usize) -> io::Result<()> {
-    let body = if up { vec![b'x'; size] } else { Vec::new() };
-    let bytes = request(if up { "PUT" } else { "GET" }, "/large", "", &body);
+/// Prints what was counted, and in how many microseconds the half of the requests was answered, and 99 of 100.
+fn tell(count: usize, seconds: f64, total: u64, mut times: Vec<u32>) {
+    times.sort_unstable();
+    let time = |percent: usize| times.get((times.len() * percent / 100).min(times.len().saturating_sub(1))).copied().unwrap_or(0);
+    println!("{count} {seconds:.6} {total} {} {}", time(50), time(99));
+}
+
+/// Sends a large file up on one connection, or gets it, so many times: the microseconds of each.
+fn move_on_one(port: u16, bytes: &[u8], wanted: Option<&Said>, times: usize) -> io::Result<Vec<u32>> {
     let mut link = Link::open(port)?;
-    let begin = Instant::now();
-    let said = link.ask(&bytes)?;
-    let seconds = begin.elapsed().as_secs_f64();
-    let right = if up { (200..205).contains(&said.status) } else { said == Said { status: 200, length: size } };
-    if !right {
-        return Err(wrong(&format!("the large file was answered {} with {} bytes", said.status, said.length)));
+    let mut taken = Vec::new();
+    for _ in 0..times {
+        let begin = Instant::now();
+        let said = link.ask(port, bytes)?;
+        taken.push(begin.elapsed().as_micros() as u32);
+        if !wanted.map_or((200..205).contains(&said.status), |wanted| said == *wanted) {
+            return Err(wrong(&format!("the large file was answered {} with {} bytes", said.status, said.length)));
+        }
     }
-    println!("{size} {seconds:.6} {size} 0 0");
+    Ok(taken)
+}
+
+/// Sends a large file up, or gets it, on each of some connections at once.
+fn move_large(port: u16, up: bool, connections: usize, size: usize, times: usize) -> io::Result<()> {
+    let body = if up { vec![b'x'; size] } else { Vec::new() };
+    let bytes = Arc::new(request(if up { "PUT" } else { "GET" }, "/large", "", &body));
+    drop(body);
+    let begin = Instant::now();
+    let begun = |_| {
+        let bytes = bytes.clone();
+        let wanted = (!up).then_some(Said { status: 200, length: size });
+        thread::spawn(move || move_on_one(port, &bytes, wanted.as_ref(), times).unwrap_or_else(|error| fail(&error.to_string())))
+    };
+    let threads: Vec<_> = (0..connections).map(begun).collect();
+    let taken: Vec<u32> = threads.into_iter().flat_map(|thread| thread.join().unwrap()).collect();
+    let moved = size * times * connections;
+    tell(moved, begin.elapsed().as_secs_f64(), moved as u64, taken);
+    Ok(())
+}
+
+/// Puts files into a folder, each connection those whose numbers are its own and each eighth from there on.
+fn fill(port: u16, folder: &'static str, count: usize) -> io::Result<()> {
+    let one = move |connection: usize| -> io::Result<()> {
+        let mut link = Link::open(port)?;
+        for file in (connection..count).step_by(FILLING) {
+            let said = link.ask(port, &request("PUT", &format!("{folder}member-{file:06}.txt"), "", &[b'x'; MEMBER]))?;
+            if !(200..205).contains(&said.status) {
+                return Err(wrong(&format!("a file of {folder} was answered {}", said.status)));
+            }
+        }
+        Ok(())
+    };
+    let begun = |connection| thread::spawn(move || one(connection).unwrap_or_else(|error| fail(&error.to_string())));
+    let threads: Vec<_> = (0..FILLING).map(begun).collect();
+    threads.into_iter().for_each(|thread| thread.join().unwrap());
+    Ok(())
+}
+
+/// Lists all properties of a folder, and prints how long that was.
+fn list(port: u16, folder: &str) -> io::Result<()> {
+    let said = Link::open(port)?.send(&request("PROPFIND", folder, "Depth: 1\r\n", b""))?;
+    if said.status != 207 {
+        return Err(wrong(&format!("a listing of {folder} was answered {}", said.status)));
+    }
+    println!("{}", said.length);
     Ok(())
 }
 
@@ -291,21 +367,28 @@ fn number<T: std::str::FromStr>(words: &[String], place: usize) -> T {
     words.get(place).and_then(|word| word.parse().ok()).unwrap_or_else(|| usage())
 }
 
+fn word(words: &[String], place: usize) -> &'static str {
+    words.get(place).unwrap_or_else(|| usage()).clone().leak()
+}
+
 fn main() {
     let words: Vec<String> = std::env::args().collect();
     let port = number(&words, 1);
-    let what: &'static str = words.get(2).unwrap_or_else(|| usage()).clone().leak();
+    let what = word(&words, 2);
     let milliseconds = |place| Duration::from_millis(number(&words, place));
     let done = match what {
         "hollow" => be_hollow(port),
-        "up" | "down" => move_large(port, what == "up", number(&words, 3)),
+        "up" | "down" => move_large(port, what == "up", number(&words, 3), number(&words, 4), number(&words, 5)),
+        "fill" => fill(port, word(&words, 3), number(&words, 4)),
+        "listing" => list(port, word(&words, 3)),
         _ => measure(port, what, number(&words, 3), milliseconds(4), milliseconds(5)),
     };
     done.unwrap_or_else(|error| fail(&error.to_string()));
 }
 
 fn usage() -> ! {
-    fail("usage: client PORT put|get|all|four|middle|part|beside CONNECTIONS WARM MEASURED, client PORT up|down BYTES, client PORT hollow")
+    fail("usage: client PORT put|get|all|four|middle|part|beside CONNECTIONS WARM MEASURED, client PORT up|down CONNECTIONS BYTES TIMES, \
+          client PORT fill FOLDER COUNT, client PORT listing FOLDER, client PORT hollow")
 }
 
 fn fail(what: &str) -> ! {

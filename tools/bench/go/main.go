@@ -1,4 +1,4 @@
-// The server of tools/bench/http that ./serve is measured beside: Go's golang.org/x/net/webdav over HTTP, its files and
+// The server of tools/live/bench that ./serve is measured beside: Go's golang.org/x/net/webdav over HTTP, its files and
 // locks in memory. It keeps nothing. usage: main ADDRESS:PORT
 package main
 
