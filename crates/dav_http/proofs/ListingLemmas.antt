@@ -8,18 +8,17 @@ use Rattle.http_server.specs.declared.response.Response.{Response}
 use Rattle.http_server.specs.Response.{IsResponse}
 use Rattle.dav_core.specs.Element.{ElementTree, child_elements, children_of, element, is_element, no_trees, text, with_children}
 use Rattle.dav_core.proofs.ElementLemmas.{tree_list_trees, trees_tree_list}
-use Rattle.dav_engine.specs.declared.reply.ReplyBody.TheVariants as reply
 use Rattle.dav_engine.specs.Reply.{Reply}
 use Rattle.dav_engine.specs.Taking.{taken_all}
 use Rattle.dav_server.specs.Head.{Request}
 use Rattle.dav_presented.specs.declared.quota.Room.{Room}
 use Rattle.dav_presented.specs.Minimal.{answered_to, with_propstat}
 use Rattle.dav_presented.specs.Missing.{completed_child, completed_tree, prop_among}
-use Rattle.dav_presented.specs.Quota.{names_quota, names_quota_if_any, with_quota, with_quota_for, with_quota_of}
+use Rattle.dav_presented.specs.Quota.{names_quota, names_quota_if_any, with_quota_for, with_quota_of}
 use Rattle.dav_presented.specs.Responses.{changed_child}
 use Rattle.dav_presented.specs.Typed.{typed, typed_child}
 use Rattle.dav_xml.specs.declared.error.Fault.{Fault}
-use Rattle.dav_xml.specs.ByChild.{child_of, closing_of, content_of, opening_of, root_place, written_name}
+use Rattle.dav_xml.specs.ByChild.{child_of, closing_of, opening_of, root_place, written_name}
 use Rattle.dav_xml.specs.Spelling.{spelling}
 use Rattle.dav_xml.specs.Token.{opens}
 use Rattle.dav_xml.specs.Namespaces.{document}
