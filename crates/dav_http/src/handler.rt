@@ -21,7 +21,7 @@ use dav_core::errors::NoMemory;
 use dav_core::fs::DavFileSystem;
 use dav_core::ls::DavLock;
 use dav_core::method::DavMethodSet;
-use dav_engine::{Body, Caller, Reply, Takes};
+use dav_engine::{Body, Caller, Gathered, Reply, Takes, gathered};
 use dav_presented::times::{find_as, patch_as};
 use dav_server::davhandler::{DavHandler, HandlerError};
 use dav_server::exchange::{Exchange, GrantToken, LAST_MOMENT, TokenError};
@@ -219,8 +219,10 @@ impl Handler {
             ↔ ¬ IsSendableTextIfAny caller.now.principal }
         ensures unchanged { IsErrOf result HandleError.Principal → self.new ≡ self.old }
     {
-        let exchange = exchange_of(alloc, head, body, caller)?;
-        self.answer(alloc, &exchange)
+        match self.handle_to(alloc, head, body, caller, Gathered::new()) {
+            Ok((told, tree)) => Ok(gathered(told, tree)),
+            Err(error) => Err(error),
+        }
     }
 
     /// The same, but that the multistatus of a PROPFIND is handed on to `to` in parts: first without responses, and then response by
@@ -245,7 +247,7 @@ impl Handler {
         ensures unchanged { IsErrOf result HandleError.Principal → self.new ≡ self.old }
     {
         let exchange = exchange_of(alloc, head, body, caller)?;
-        self.answer_to(alloc, &exchange, to)
+        self.answer(alloc, &exchange, to)
     }
 
     /// The first lock whose time ended at this moment or before, in seconds since 1970; `None` where none did.
@@ -305,35 +307,8 @@ impl Handler {
         self.handler.prefix()
     }
 
-    // The reply to a request that may be sent.
-    fn answer(&mut self, alloc: Global, exchange: &Exchange<'_>) -> Result<Reply, HandleError>
-        requires moment { exchange.now.moment ≤ last_moment }
-        requires sendable { IsSendableRequest exchange.now }
-        ensures same { self.new.server.settings ≡ self.old.server.settings }
-        ensures answers { IfOk result (λ reply.
-            Answers self.old.server exchange.now reply self.new.server) }
-        ensures ample { OnOk result (self.new.server.state.store.short ≡ false) }
-        ensures told { IfOk result (λ reply. HoldsSendable reply.body) }
-        ensures left { IfOk result (λ reply. Leaves exchange.now.head reply.status
-            → self.new.server ≡ self.old.server) }
-        ensures memory { OnErr result (result ≡ Err HandleError.Memory) }
-    {
-        if self.handler.fs().was_short() {
-            return Err(HandleError::Memory);
-        }
-        match self.handler.handle(alloc, exchange) {
-            Ok(reply) => {
-                if self.handler.fs().was_short() {
-                    return Err(HandleError::Memory);
-                }
-                Ok(reply)
-            }
-            Err(_) => Err(HandleError::Memory),
-        }
-    }
-
-    // The same, of which the multistatus is handed on to `to`.
-    fn answer_to<T: Takes + Drop>(
+    // The reply to a request that may be sent, of which the multistatus is handed on to `to`.
+    fn answer<T: Takes + Drop>(
         &mut self,
         alloc: Global,
         exchange: &Exchange<'_>,

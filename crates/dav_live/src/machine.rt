@@ -609,10 +609,10 @@ impl Machine {
     {
         let watches = mem::replace(&mut self.watches, Watches::new(self.alloc));
         let caller = caller_of(request);
-        let body = request.body.clone()?;
+        let content = request.body.clone()?;
         match self
             .handler
-            .handle_to(self.alloc, request.head, body, &caller, listing)
+            .handle_to(self.alloc, request.head, content, &caller, listing)
         {
             Ok(told) => {
                 self.watches = watches;

@@ -1,15 +1,17 @@
-use Rattle.std.proofs.Common.{List, subst, sym, ℕ}
-use Rattle.std.proofs.lemmas.Result.{IfOk-weaker}
+use Rattle.std.proofs.Common.{None, Some, ap, subst, sym, ◌∙◌}
+use Rattle.dav_engine.specs.Reply.{Reply}
+use Rattle.dav_engine.specs.Taking.{grown_tree, opened_tree}
 use Rattle.dav_http.specs.Leaves.{Leaves}
-use Rattle.dav_http.proofs.SentRequests.{given_request}
+use Rattle.dav_http.specs.Steps.{IsStepFor}
+use Rattle.dav_http.proofs.HandingLemmas.{same_status}
 use Rattle.dav_http.proofs.handler.Handler.handle.Goals as goal
 
-pub answer-requires-clause-sendable : goal.answer-requires-clause-sendable
-answer-requires-clause-sendable c =
-    given_request c.args.head.now c.args.body c.args.caller.now c.in_ok-exchange.exchange c.in_ok-exchange.ensures.asked c.in_ok-exchange.ensures.sendable
+pub returns-in-Ok-clause-step : goal.returns-in-Ok-clause-step
+returns-in-Ok-clause-step c =
+    let parts = c.in-Ok.ensures.step in
+    subst (λ (r : Reply). IsStepFor c.args.head.now c.args.body c.args.caller.now c.args.self.now.server r c.handle_to.new.self.server) (sym (c.gathered.ensures parts.whole parts.handed)) parts.step
 
-pub returns-clause-left : goal.returns-clause-left
-returns-clause-left c =
-    IfOk-weaker c.answer.result _ _
-    (λ reply left leaves. left (subst (λ (h : List ℕ). Leaves h reply.status) (sym c.in_ok-exchange.ensures.asked.head_is) leaves))
-    c.answer.ensures.left
+pub returns-in-Ok-clause-left : goal.returns-in-Ok-clause-left
+returns-in-Ok-clause-left c leaves =
+    let parts = c.in-Ok.ensures.step in
+    c.in-Ok.ensures.left (subst (λ n. Leaves c.args.head.now n) (ap (λ (r : Reply). r.status) (c.gathered.ensures parts.whole parts.handed) ∙ sym (same_status opened_tree grown_tree None _ parts.handed)) leaves)
