@@ -44,7 +44,7 @@ const EACH: &str = "<D:response><D:href>/a%20long%20name%20of%20a%20file</D:href
 const END: &str = "</D:multistatus>";
 
 // What takes the responses to a request.
-fn listing_for<'b>(alloc: Global, head: &Head<'b>, body: &[u8]) -> Result<Listing, Fail> {
+fn listing_for(alloc: Global, head: &Head<'_>, body: &[u8]) -> Result<Listing, Fail> {
     let server = Handler::new(alloc, "")?;
     let store = Store {
         server: &server,

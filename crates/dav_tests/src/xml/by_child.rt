@@ -14,7 +14,7 @@ const ROWS: &str = "\
 # a multistatus (RFC 4918, 9.1.3)
 <D:multistatus xmlns:D='DAV:'><D:response><D:href>/a</D:href></D:response><D:response/></D:multistatus> -> <D:multistatus xmlns:D=\"DAV:\">|<D:response><D:href>/a</D:href></D:response>|<D:response/>|</D:multistatus>
 # what the root declares is known in each child (Namespaces in XML 1.0, 6.1)
-<p:a xmlns:p='u'><p:b/><p:c p:d='1'/></p:a> -> <p:a xmlns:p=\"u\">|<p:b/>|<p:c p:d=\"1\" xmlns:p=\"u\"/>|</p:a>
+<p:a xmlns:p='u'><p:b/><p:c p:d='1'/></p:a> -> <p:a xmlns:p=\"u\">|<p:b/>|<p:c p:d=\"1\"/>|</p:a>
 <p:a xmlns:p='u' p:d='1'><p:b/></p:a> -> <p:a p:d=\"1\" xmlns:p=\"u\">|<p:b/>|</p:a>
 <a xmlns='u'><b/><c xmlns=''/><d xmlns='v'><e/></d></a> -> <a xmlns=\"u\">|<b/>|<c xmlns=\"\"/>|<d xmlns=\"v\"><e/></d>|</a>
 # a child declares what the root doesn't, for itself alone (6.1)
