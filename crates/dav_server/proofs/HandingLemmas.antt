@@ -1,15 +1,16 @@
 -- What was answered, of which a multistatus was handed on in parts.
-use Rattle.std.proofs.Common.{◌≡◌, Option, None, Result, Ok, Err, refl, sym, subst}
+use Rattle.std.proofs.Common.{◌≡◌, ◌≢◌, Option, None, Result, Ok, Err, refl, sym, subst}
 use Rattle.dav_core.specs.declared.errors.DavError.{DavError}
+use Rattle.dav_core.specs.declared.errors.DavError.TheVariants.{Memory}
 use Rattle.dav_core.specs.Element.{ElementTree}
 use Rattle.dav_engine.specs.Follows.{Serves}
 use Rattle.dav_engine.specs.Method.{MethodPlan}
 use Rattle.dav_engine.specs.Plan.{ServerState}
-use Rattle.dav_engine.specs.Reply.{Reply}
+use Rattle.dav_engine.specs.Reply.{Reply, error_reply}
 use Rattle.dav_engine.specs.Taking.{IsHandedOn, ServesHandingOn}
 use Rattle.dav_server.specs.Machine.{Exchange, Means}
 use Rattle.dav_server.specs.Server.{AnswersInParts, Server}
-use Rattle.dav_server.proofs.StepLemmas.{served_ok}
+use Rattle.dav_server.proofs.StepLemmas.{served_err, served_ok}
 
 module _ {T : Type 0} (opened taken : T → ElementTree → T) (to : T) where
   -- what is handed on of a part is handed on of the whole
@@ -37,6 +38,14 @@ module _ {T : Type 0} (opened taken : T → ElementTree → T) (to : T) where
   in_parts (Ok whole, serves, handed) = record { whole = whole; answers = served_ok serves; handed = handed }
   in_parts (Err e, serves, handed) = absurd handed
 
-  -- a reply of which nothing was handed on is whole
-  pub none_handed : {r : Reply} {after : Option T} → after ≡ None → IsHandedOn opened taken to r r after
-  none_handed {r} is = subst (λ (a : Option T). IsHandedOn opened taken to r r a) (sym is) refl
+  -- a reply to an error, of which nothing was handed on, is whole
+  none_handed : (r : Reply) (after : Option T) → after ≡ None → IsHandedOn opened taken to r r after
+  none_handed r after is = subst (λ (a : Option T). IsHandedOn opened taken to r r a) (sym is) refl
+
+  pub refused_parts : {old new : Server} {x : Exchange} {e : DavError} (told : Reply × Option T) → Serves (Means old.settings x) old.state (Err e) new.state
+      → (told.0 ≡ error_reply e) × (e ≢ Memory) × (told.1 ≡ None) → AnswersInParts opened taken to old x told.0 told.1 new
+  refused_parts told serves (is, other, none) = record {
+    whole = told.0;
+    answers = served_err serves is other;
+    handed = none_handed told.0 told.1 none;
+  }

@@ -8,11 +8,11 @@ use Rattle.dav_server.proofs.davhandler.serve_to.Goals as goal
 pub returns-then-is_propfind-clause-serves : goal.returns-then-is_propfind-clause-serves
 returns-then-is_propfind-clause-serves g c =
     handing_by g.T.Takes.opened g.T.Takes.taken c.args.to _ (λ whole one.
-    serves_as (λ plan is. plan_at ? (finds_properties is))
+    serves_as (λ plan is. plan_at (c.if-is_propfind.ensures.0 refl) (finds_properties is))
     (serves_held c.handler.view_is (serves_by (ap (PropfindOf c.args.request.now c.args.body.now) c.caller_of.ensures.caller) one))) c.handle_propfind_to.ensures.serves
 
 pub returns-in-Ok-clause-serves : goal.returns-in-Ok-clause-serves
 returns-in-Ok-clause-serves g c = (Ok c.in-Ok.reply, c.in-Ok.ensures.serves, refl)
 
-pub returns-in-Err-clause-serves : goal.returns-in-Err-clause-serves
-returns-in-Err-clause-serves g c = handing_err g.T.Takes.opened g.T.Takes.taken c.args.to _ c.in-Err.ensures.serves
+pub returns-clause-serves : goal.returns-clause-serves
+returns-clause-serves g c = handing_err g.T.Takes.opened g.T.Takes.taken c.args.to _ c.in-Err.ensures.serves

@@ -2,8 +2,8 @@ use Rattle.std.proofs.Common.{Err, ap}
 use Rattle.std.proofs.lemmas.Result.{IfOk-weaker}
 use Rattle.dav_server.specs.Server.{StopsIn}
 use Rattle.dav_server.proofs.CutSteps.{safe_leaves_cut}
-use Rattle.dav_server.proofs.HandingLemmas.{handed_err, in_parts, none_handed}
-use Rattle.dav_server.proofs.StepLemmas.{served_cut, served_err, any_err}
+use Rattle.dav_server.proofs.HandingLemmas.{handed_err, in_parts, refused_parts}
+use Rattle.dav_server.proofs.StepLemmas.{served_cut, any_err}
 use Rattle.dav_server.proofs.UngrantedLemmas.{grants_nothing}
 use Rattle.dav_server.proofs.davhandler.DavHandler.handle_to.Goals as goal
 
@@ -12,11 +12,7 @@ returns-in-Ok-clause-ok g c = in_parts g.T.Takes.opened g.T.Takes.taken c.args.t
 
 pub returns-in-Err-clause-ok : goal.returns-in-Err-clause-ok
 returns-in-Err-clause-ok g c =
-    IfOk-weaker _ _ _ (λ told r. record {
-      whole = told.0;
-      answers = served_err (handed_err g.T.Takes.opened g.T.Takes.taken c.args.to c.in-Err.ensures.serves) r.0 r.1;
-      handed = none_handed g.T.Takes.opened g.T.Takes.taken c.args.to r.2;
-    }) c.refuse_whole.ensures
+    IfOk-weaker c.refuse_whole.result _ _ (λ told r. refused_parts g.T.Takes.opened g.T.Takes.taken c.args.to told (handed_err g.T.Takes.opened g.T.Takes.taken c.args.to c.in-Err.ensures.serves) r) c.refuse_whole.ensures
 
 pub returns-in-Ok-clause-reading : goal.returns-in-Ok-clause-reading
 returns-in-Ok-clause-reading g c = safe_leaves_cut _ _ _ _ (served_cut c.in-Ok.ensures.serves.1)
