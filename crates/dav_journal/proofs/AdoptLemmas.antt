@@ -1,11 +1,11 @@
 -- A file of before is taken over.
-use Rattle.std.proofs.Common.{◌≡◌, ℕ, ◌<◌, ◌^◌, List, [], ◌∷◌, ◌++◌, length, refl, sym, ap, subst, inl, inr, arith}
+use Rattle.std.proofs.Common.{◌≡◌, ℕ, ◌<◌, List, [], ◌∷◌, ◌++◌, length, sym, ap, subst, arith}
 use Rattle.std.specs.Int.{w64, to_be_bytes}
 use Rattle.sqlite_disk.specs.declared.Disk.{Ghosts}
 use Rattle.dav_journal.specs.declared.journal.Journal.{Journal}
 use Rattle.dav_journal.specs.Block.{IsBlock}
 use Rattle.dav_journal.specs.File.{Recovers}
-use Rattle.dav_journal.specs.Journal.{HasFront, HasRead, IsKept, IsOpened, IsReading, LeavesOnly}
+use Rattle.dav_journal.specs.Journal.{HasFront, HasRead, IsOpened, IsReading}
 use Rattle.dav_journal.specs.Pair.{PairRecovers}
 use Rattle.dav_journal.proofs.BlockLemmas.{blocks_le}
 use Rattle.dav_journal.proofs.OneLemmas.{one_block, one_key}

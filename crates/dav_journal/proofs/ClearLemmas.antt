@@ -1,19 +1,18 @@
 -- A journal that is cleared.
-use Rattle.std.proofs.Common.{◌≡◌, ◌≢◌, ◌⊎◌, ℕ, ◌+◌, ◌<◌, ◌≤◌, ◌^◌, List, [], ◌∷◌, length, slice_index, replicate, refl, sym, ◌∙◌, ap, subst, inl, inr, arith}
+use Rattle.std.proofs.Common.{◌≡◌, ◌≢◌, ◌⊎◌, ℕ, ◌<◌, ◌^◌, List, [], slice_index, refl, sym, ◌∙◌, ap, subst, inl, inr, arith}
 use Rattle.std.proofs.lemmas.Bool.{cases_eq, cases_lt}
 use Rattle.std.proofs.lemmas.List.{ext_get_or}
-use Rattle.sqlite_disk.specs.Disk.{Holds, Only, Torn}
+use Rattle.sqlite_disk.specs.Disk.{Torn}
 use Rattle.sqlite_disk.specs.declared.Disk.{Ghosts}
 use Rattle.dav_journal.specs.declared.journal.Journal.{Journal}
-use Rattle.dav_journal.specs.Block.{AreBlocks, front_of}
+use Rattle.dav_journal.specs.Block.{front_of}
 use Rattle.dav_journal.specs.File.{Recovers}
-use Rattle.dav_journal.specs.Journal.{Ends, HasFront, IsBare, IsOpened, IsSynced, Stays}
+use Rattle.dav_journal.specs.Journal.{Ends, HasFront, IsOpened, Stays}
 use Rattle.dav_journal.specs.Mark.{IsBlank, IsMarkPlace}
-use Rattle.dav_journal.specs.Write.{KeepsFront}
 use Rattle.dav_journal.proofs.BlockLemmas.{holds_kept, length-front}
 use Rattle.dav_journal.proofs.CutLemmas.{ends_recovers, torn_front}
-use Rattle.dav_journal.proofs.FrontLemmas.{all_blank, others_front}
-use Rattle.dav_journal.proofs.MarkLemmas.{KeepsOthers, blank_kept, blank_mark, torn_others}
+use Rattle.dav_journal.proofs.FrontLemmas.{others_front}
+use Rattle.dav_journal.proofs.MarkLemmas.{KeepsOthers, blank_kept, blank_mark}
 
 pub opened_stays : {D : Type 0} (g : Ghosts D) (old new : Journal D) → Stays g old new → IsOpened g old → IsOpened g new
 opened_stays g old new s o = record { small = rw s.key o.small; outcomes = λ c may. rw s.key (o.outcomes c (s.reads.crash c may)) }

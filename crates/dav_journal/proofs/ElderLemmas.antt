@@ -1,14 +1,13 @@
 -- Files of the elder format.
-use Rattle.std.proofs.Common.{◌≡◌, ◌≢◌, ◌⊎◌, ℕ, ◌+◌, ◌-◌, ◌<◌, ◌≤◌, ◌^◌, List, [], ◌∷◌, ◌++◌, length, slice_index, Option, Some, None, replicate, drop, codes, sym, refl, ◌∙◌, ap, subst, inl, inr, arith, length-append}
-use Rattle.std.proofs.lemmas.Bool.{cases_eq, cases_lt}
-use Rattle.std.proofs.lemmas.List.{ext_get_or, get_or_append_left, get_or-append-add, get_or-drop, length-drop, length-replicate}
+use Rattle.std.proofs.Common.{◌≡◌, ℕ, ◌+◌, ◌<◌, ◌≤◌, ◌^◌, List, [], ◌∷◌, ◌++◌, length, slice_index, Option, Some, None, replicate, drop, sym, refl, ◌∙◌, ap, subst, inl, inr, arith, length-append}
+use Rattle.std.proofs.lemmas.List.{ext_get_or, get_or-append-add, get_or-drop, length-drop, length-replicate}
 use Rattle.std.proofs.lemmas.Nat.{from_be_bytes-to_be_bytes_8}
 use Rattle.std.specs.Int.{w64, to_be_bytes, from_be_bytes}
 use Rattle.std.specs.List.{slice_range}
 use Rattle.sqlite_disk.specs.Disk.{Holds}
 use Rattle.sqlite_disk.specs.declared.Disk.{Ghosts}
 use Rattle.dav_journal.specs.declared.journal.Journal.{Journal}
-use Rattle.dav_journal.specs.Elder.{AreElder, ElderRecovers, HasElderFront, HasReadElder, IsElder, IsNoElder, IsReadingElder, elder_bytes, elder_end, elder_head}
+use Rattle.dav_journal.specs.Elder.{AreElder, IsElder, IsNoElder, IsReadingElder, elder_bytes, elder_end, elder_head}
 use Rattle.dav_journal.specs.Journal.{Stays}
 use Rattle.dav_journal.specs.Mark.{IsFaint}
 use Rattle.dav_journal.specs.Write.{HasZeros}

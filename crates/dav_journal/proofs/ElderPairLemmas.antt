@@ -1,14 +1,14 @@
 -- A file of the elder format is taken over.
-use Rattle.std.proofs.Common.{◌≡◌, ◌⊎◌, ℕ, ◌+◌, ◌≤◌, ◌<◌, ◌^◌, List, [], ◌∷◌, ◌++◌, length, slice_index, codes, refl, sym, ◌∙◌, ap, subst, inl, inr, arith}
+use Rattle.std.proofs.Common.{◌≡◌, ℕ, ◌+◌, List, [], ◌∷◌, slice_index, codes, sym, ◌∙◌, ap, subst, inl, inr, arith}
 use Rattle.std.proofs.lemmas.List.{get_or_append_left}
 use Rattle.sqlite_disk.specs.declared.Disk.{Ghosts}
 use Rattle.dav_journal.specs.declared.journal.Journal.{Journal}
 use Rattle.dav_journal.specs.Block.{twice}
 use Rattle.dav_journal.specs.File.{Recovers}
-use Rattle.dav_journal.specs.Elder.{AreElder, AreGoing, ElderRecovers, HasElderFront, HasReadElder, IsElder, IsLetGo, IsNoElder, IsReadingElder, elder_head}
+use Rattle.dav_journal.specs.Elder.{AreElder, ElderRecovers, HasElderFront, HasReadElder, IsElder, IsLetGo, IsNoElder, IsReadingElder, elder_head}
 use Rattle.dav_journal.proofs.BlockLemmas.{holds_first, length-front}
 use Rattle.dav_journal.proofs.ElderLemmas.{one_elder_key, one_elder_list}
-use Rattle.dav_journal.proofs.GoingLemmas.{at_front, first_head, going_long}
+use Rattle.dav_journal.proofs.GoingLemmas.{at_front, first_head}
 use Rattle.sqlite_disk.specs.Disk.{Holds}
 
 -- a file that was let go doesn't stand for its blocks any more

@@ -1,15 +1,15 @@
 -- A file of the elder format is let go.
-use Rattle.std.proofs.Common.{◌≡◌, ◌≢◌, ◌⊎◌, ℕ, suc, ◌+◌, ◌-◌, ◌<◌, ◌≤◌, ◌^◌, List, [], ◌∷◌, ◌++◌, length, slice_index, replicate, drop, codes, sym, refl, ◌∙◌, ap, subst, inl, inr, arith, length-append}
-use Rattle.std.proofs.lemmas.Bool.{cases_eq, cases_lt}
+use Rattle.std.proofs.Common.{◌≡◌, ◌⊎◌, ℕ, suc, ◌+◌, ◌-◌, ◌<◌, ◌≤◌, ◌^◌, List, [], ◌∷◌, ◌++◌, length, slice_index, replicate, drop, codes, sym, refl, ◌∙◌, ap, subst, inl, inr, arith, length-append}
+use Rattle.std.proofs.lemmas.Bool.{cases_lt}
 use Rattle.std.proofs.lemmas.List.{ext_get_or, get_or_append_left, get_or-append-add, get_or_past, get_or-drop, length-drop, length-replicate}
 use Rattle.std.specs.Int.{w64, to_be_bytes}
 use Rattle.sqlite_disk.specs.Disk.{Cut, Holds, Mixed, Torn}
 use Rattle.sqlite_disk.specs.declared.Disk.{Ghosts}
 use Rattle.dav_journal.specs.declared.journal.Journal.{Journal}
-use Rattle.dav_journal.specs.Block.{front_of, zeros_in}
-use Rattle.dav_journal.specs.Elder.{AreElder, ElderRecovers, HasElderFront, IsElder, IsEmptied, IsGoing, IsLetGo, IsNoElder, IsReadingElder, elder_bytes, elder_end, elder_head}
+use Rattle.dav_journal.specs.Block.{front_of}
+use Rattle.dav_journal.specs.Elder.{AreElder, ElderRecovers, HasElderFront, IsEmptied, IsGoing, IsLetGo, IsNoElder, IsReadingElder, elder_bytes, elder_end, elder_head}
 use Rattle.dav_journal.specs.File.{AreZeros, IsBegun, Recovers}
-use Rattle.dav_journal.specs.Mark.{IsFaint, IsMarkPlace}
+use Rattle.dav_journal.specs.Mark.{IsFaint}
 use Rattle.dav_journal.specs.Write.{HasZeros, KeepsFront}
 use Rattle.dav_journal.proofs.BlockLemmas.{holds_first, holds_kept, length-front, no_block_short}
 use Rattle.dav_journal.proofs.ElderLemmas.{length-elder, length-elder_bytes}

@@ -13,6 +13,7 @@ mod MixedLemmas
 mod OneLemmas
 pub mod PairLemmas
 mod PartLemmas
+mod PartsLemmas
 mod PassedLemmas
 mod TwiceLemmas
 mod WriteLemmas

@@ -1,12 +1,11 @@
 -- Two files, of which one counts.
-use Rattle.std.proofs.Common.{◌≡◌, ◌≢◌, ◌⊎◌, ℕ, ◌+◌, ◌<◌, ◌≤◌, ◌^◌, List, [], ◌∷◌, ◌++◌, Option, Some, None, IfSome, MatchOption, length, take, drop, refl, sym, ◌∙◌, ap, subst, inl, inr, arith}
+use Rattle.std.proofs.Common.{◌≡◌, ◌≢◌, ◌⊎◌, ℕ, ◌+◌, ◌<◌, ◌^◌, List, [], ◌∷◌, ◌++◌, Option, Some, None, IfSome, MatchOption, length, take, drop, refl, sym, ◌∙◌, ap, subst, inl, inr, arith}
 use Rattle.std.proofs.lemmas.Nat.{from_be_bytes-to_be_bytes_8}
 use Rattle.std.specs.Int.{w64, to_be_bytes, from_be_bytes}
-use Rattle.sqlite_disk.specs.Disk.{Holds, Only}
 use Rattle.sqlite_disk.specs.declared.Disk.{Ghosts}
 use Rattle.dav_journal.specs.declared.journal.Journal.{Journal}
 use Rattle.dav_journal.specs.declared.pair.Pair.{Pair}
-use Rattle.dav_journal.specs.Block.{AreBlocks, IsBlock, IsNoBlock, end_of, front_of}
+use Rattle.dav_journal.specs.Block.{AreBlocks, IsBlock, IsNoBlock, end_of}
 use Rattle.dav_journal.specs.File.{IsBegun, Recovers}
 use Rattle.dav_journal.specs.Journal.{HasFront, HasRead, IsClean, IsKept, IsOpened, IsReading, LeavesOnly, OnlyReads, disk_of}
 use Rattle.dav_journal.specs.Pair.{AreOlder, BeginsBelow, BeginsWith, Counts, HasFirst, HasGeneration, HasReadPair, IsCleanPair, IsSpare, PairLeavesOnly, PairRecovers, PairStandsFor, StaysPair, WasOpened, WereOpened, counting, spare_of, with_generation}

@@ -5,4 +5,5 @@ pub mod File
 pub mod Journal
 pub mod Mark
 pub mod Pair
+pub mod Parts
 pub mod Write

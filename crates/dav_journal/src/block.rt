@@ -1,12 +1,15 @@
 //! The bytes of blocks, and of the front of the file.
-ghost use Rattle.std.specs.Prelude.{◌≡◌, ◌≢◌, ◌≤◌, ◌<◌, ◌^◌, ◌++◌, ◌∷◌, [], ℕ, List, Some, length, codes, replicate, IfSome, IfNone, IfOk, OnOk, IsTrue, ◌↔◌};
+ghost use Rattle.std.specs.Prelude.{◌≡◌, ◌≢◌, ◌≤◌, ◌<◌, ◌^◌, ◌++◌, ◌∷◌, [], ℕ, List, Some, length, codes, replicate, IfSome, IfNone, IfOk, OnOk, IsTrue, slice_index, ◌+◌, ◌↔◌};
 ghost use Rattle.std.specs.Int.{w64, from_be_bytes, to_be_bytes};
 ghost use Rattle.dav_journal.specs.Block.{block_bytes, digest_at, front_of, head_of, twice, zeros_in};
 ghost use Rattle.dav_journal.specs.File.{AreZeros, IsBegun};
 ghost use Rattle.dav_journal.specs.Mark.{IsFaint};
+ghost use Rattle.dav_journal.specs.Parts.{gate_after};
+ghost use Rattle.sqlite_disk.specs.Digest.{digest};
 
 use sqlite_disk::digest_of;
 use std::alloc::{AllocError, Global};
+use std::hash::{DefaultHasher, Hasher};
 
 /// The bytes of a block's gate and head: the gate, the length of its content and how many of its bytes are 0, each with its
 /// complement, the digest of its content, the digest of the length, of that digest and of the place.
@@ -80,27 +83,70 @@ fn add_digests(out: &mut Vec<u8>, told: u64, own: u64) -> Result<(), AllocError>
     out.extend_from_slice(&own.to_be_bytes())
 }
 
-// Adds the head of a block with this content at this place.
-pub fn add_head(out: &mut Vec<u8>, key: u64, place: u64, content: &[u8]) -> Result<(), AllocError>
-    ensures { OnOk result (out.new.items ≡ out.old.items ++ head_of key place content.now) }
+// The digest of a content that is in two parts.
+fn digest_of_both(key: u64, content: &[u8], body: &[u8]) -> u64
+    ensures { result ≡ digest key (content.now ++ body.now) }
 {
-    let len = content.len() as u64;
-    let told = digest_of(key, content);
+    let mut hasher = DefaultHasher::new();
+    hasher.write(&key.to_le_bytes());
+    hasher.write(content);
+    hasher.write(body);
+    1u64.max(hasher.finish())
+}
+
+// Adds the head of a block at this place, whose content is in two parts and has so many bytes.
+pub fn add_head(
+    out: &mut Vec<u8>,
+    key: u64,
+    place: u64,
+    len: u64,
+    content: &[u8],
+    body: &[u8],
+) -> Result<(), AllocError>
+    requires { len ≡ length content.now + length body.now }
+    ensures { OnOk result (out.new.items
+        ≡ out.old.items ++ head_of key place (content.now ++ body.now)) }
+{
+    let told = digest_of_both(key, content, body);
     add_twice(out, len)?;
-    add_twice(out, zeros_of(content))?;
+    add_twice(out, zeros_of(content) + zeros_of(body))?;
     add_digests(out, told, digest_of_head(key, place, len, told))
 }
 
-// The bytes of a block with this content at this place, and the gate after it, which is shut.
-pub fn bytes_of(alloc: Global, key: u64, place: u64, content: &[u8]) -> Result<Vec<u8>, AllocError>
-    ensures { IfOk result (λ v. v.items ≡ block_bytes key place content.now ++ 0 ∷ []) }
+// The first bytes of a block at this place, whose content is in two parts: all that is before the second one. Where that is
+// empty they are all of the block, and the gate after it, which is shut.
+pub fn first_part(
+    alloc: Global,
+    key: u64,
+    place: u64,
+    content: &[u8],
+    body: &[u8],
+) -> Result<Vec<u8>, AllocError>
+    ensures whole { IfOk result (λ v. v.items ++ (body.now ++ gate_after body.now)
+        ≡ block_bytes key place (content.now ++ body.now) ++ 0 ∷ []) }
+    ensures gated { IfOk result (λ v. (1 < length v.items) × (slice_index v.items 0 ≡ 1)) }
 {
+    let Some(len) = content.len().checked_add(body.len()) else {
+        return Err(AllocError);
+    };
     let mut bytes = Vec::new(alloc);
     bytes.push(OPEN)?;
-    add_head(&mut bytes, key, place, content)?;
+    add_head(&mut bytes, key, place, len as u64, content, body)?;
     bytes.extend_from_slice(content)?;
-    bytes.push(0)?;
+    if body.is_empty() {
+        bytes.push(0)?;
+    }
     Ok(bytes)
+}
+
+// What is written behind the second part of a block's content.
+pub fn last_part(body: &[u8]) -> &'static [u8]
+    ensures { result.now ≡ gate_after body.now }
+{
+    match body {
+        [] => &[],
+        _ => &[0],
+    }
 }
 
 // Whether these are the gate and the head of a block with this content at this place.
@@ -115,7 +161,7 @@ pub fn is_head(
 {
     let mut wanted = Vec::new(alloc);
     wanted.push(OPEN)?;
-    add_head(&mut wanted, key, place, content)?;
+    add_head(&mut wanted, key, place, content.len() as u64, content, &[])?;
     Ok(wanted.as_slice() == head)
 }
 

@@ -7,6 +7,7 @@ mod error;
 mod journal;
 mod mark;
 mod pair;
+mod parts;
 mod write;
 
 pub use error::JournalError;

@@ -162,3 +162,7 @@ pub number_read : (bs front rest : List ℕ) (n : ℕ) → ((i : ℕ) → get_or
     → bs ≡ to_be_bytes w64 n ++ rest
 number_read bs front rest n small is eight number after =
     parts 8 bs front rest is after ∙ ap (λ (ys : List ℕ). ys ++ rest) (sym (be_bytes_8 front n eight (λ i. rw is (small_take 8 bs small i)) number))
+
+-- bytes that were added, and what follows
+pub joins : (x y z rest : List ℕ) → y ≡ x ++ z → y ++ rest ≡ x ++ (z ++ rest)
+joins x y z rest is = ap (λ (l : List ℕ). l ++ rest) is ∙ append_assoc x z rest

@@ -153,7 +153,7 @@ with_snapshot false first blocks = blocks
 -- what a server holds
 abbrev pub held_by : {H J : Type 0} → Kept H J → Holding H
 held_by k =
-    record { state = k.handler; batch = k.batch.items; tokens = k.tokens; latest = k.latest }
+    record { state = k.handler; batch = k.batch; tokens = k.tokens; latest = k.latest }
 
 -- its journal
 abbrev pub journal_of : {H J : Type 0} → Kept H J → J

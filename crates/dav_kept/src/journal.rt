@@ -82,6 +82,15 @@ pub trait Keeps {
         ensures any_moment { (blocks : List (List ℕ)) → kept self.old blocks
             → leaves self.new blocks (blocks ++ block.now ∷ []) };
 
+    /// The same of a block that is in two parts, of which the second one is kept from where it is.
+    fn keep_both(&mut self, alloc: Global, block: &[u8], body: &[u8]) -> Result<(), KeptError>
+        ensures clean { is_clean self.new → is_clean self.old }
+        ensures own { OnOk result (is_clean self.new → is_own self.old) }
+        ensures kept { OnOk result ((blocks : List (List ℕ)) → kept self.old blocks
+            → kept self.new (blocks ++ (block.now ++ body.now) ∷ [])) }
+        ensures any_moment { (blocks : List (List ℕ)) → kept self.old blocks
+            → leaves self.new blocks (blocks ++ (block.now ++ body.now) ∷ []) };
+
     /// Makes room to begin anew with a block of so many bytes. False where there is none.
     fn room_to_renew(&mut self, size: usize) -> Result<bool, KeptError>
         ensures clean { is_clean self.new → is_clean self.old }

@@ -10,6 +10,7 @@ ghost use Rattle.dav_kept.specs.declared.handler.Effect.TheVariants.{Changed};
 mod saving;
 mod starting;
 
+use crate::batch::Batch;
 use crate::error::KeptError;
 use crate::handler::{Asks, Effect, Handles};
 use crate::journal::Keeps;
@@ -20,9 +21,6 @@ use std::alloc::Global;
 
 /// At most so many quiet moments in a row pass without a look at the journal.
 const BEAT: u64 = 4;
-
-// A batch keeps so much room at most.
-const ROOM: usize = 1_048_576;
 
 /// A handler and its journal: the handler's state is that of the run of the records in the
 /// journal's blocks and in the batch, from the state that the journal begins with.
@@ -43,7 +41,7 @@ pub struct Kept<H, J> {
     /// How many quiet moments in a row passed without a look at the journal.
     quiet: u64,
     /// The records since the last commit.
-    batch: Vec<u8>,
+    batch: Batch,
     /// How many of all records have a token.
     tokens: u64,
     /// The latest moment of all records.
@@ -81,7 +79,7 @@ impl<H: Handles + Drop, J: Keeps + Drop> Kept<H, J> {
             base: 0,
             is_marked: false,
             quiet: 0,
-            batch: Vec::new(alloc),
+            batch: Batch::new(alloc),
             tokens: 0,
             latest: 0,
         };
@@ -241,7 +239,7 @@ impl<H: Handles + Drop, J: Keeps + Drop> Kept<H, J> {
         ensures stays { StaysInJournal self.old self.new }
         ensures journal { journal_of self.new ≡ journal_of self.old }
     {
-        request.record(status).write(&mut self.batch)?;
+        self.batch.add(&request.record(status), request.body)?;
         self.count(request);
         Ok(())
     }
@@ -302,8 +300,9 @@ impl<H: Handles + Drop, J: Keeps + Drop> Kept<H, J> {
         if self.batch.is_empty() {
             return Ok(());
         }
-        self.journal.keep(self.alloc, &self.batch)?;
-        empty(self.alloc, &mut self.batch);
+        let (text, body) = self.batch.parts();
+        self.journal.keep_both(self.alloc, text, body)?;
+        self.batch.empty(self.alloc);
         self.is_marked = false;
         Ok(())
     }
@@ -372,16 +371,5 @@ impl<H: Handles + Drop, J: Keeps + Drop> Kept<H, J> {
         ensures { result.now ≡ (held_by self.now).state }
     {
         &self.handler
-    }
-}
-
-// Empties a batch, and gives back the room of a large one.
-fn empty(alloc: Global, batch: &mut Vec<u8>)
-    ensures { batch.new.items ≡ [] }
-{
-    if batch.capacity() > ROOM {
-        *batch = Vec::new(alloc);
-    } else {
-        batch.clear();
     }
 }

@@ -2,6 +2,7 @@
 //! over each restart.
 #![tactic(auto)]
 
+mod batch;
 mod error;
 mod former;
 mod handler;

@@ -63,6 +63,10 @@ impl<D: Disk + Drop> Keeps for Pair<D> {
         Ok(Pair::keep(self, alloc, block)?)
     }
 
+    fn keep_both(&mut self, alloc: Global, block: &[u8], body: &[u8]) -> Result<(), KeptError> {
+        Ok(Pair::keep_both(self, alloc, block, body)?)
+    }
+
     fn room_to_renew(&mut self, size: usize) -> Result<bool, KeptError> {
         match Pair::room_to_renew(self, size) {
             Ok(()) => Ok(true),

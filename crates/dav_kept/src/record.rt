@@ -272,12 +272,22 @@ impl<'a> Record<'a> {
     pub fn write(&self, out: &mut Vec<u8>) -> Result<(), AllocError>
         ensures { OnOk result (out.new.items ≡ out.old.items ++ record_bytes self.now) }
     {
+        self.write_front(out)?;
+        out.extend_from_slice(self.body)
+    }
+
+    /// Adds what the record has before the bytes of its body, which follow.
+    pub fn write_front(&self, out: &mut Vec<u8>) -> Result<(), AllocError>
+        ensures { OnOk result (out.new.items ++ self.now.request.body
+            ≡ out.old.items ++ record_bytes self.now) }
+    {
         out.extend_from_slice(&self.moment.to_be_bytes())?;
         out.extend_from_slice(&self.status.to_be_bytes())?;
         put_option(out, self.principal)?;
         put_option(out, self.token)?;
         put(out, self.head)?;
-        put(out, self.body)
+        out.extend_from_slice(&(self.body.len() as u64).to_be_bytes())?;
+        Ok(())
     }
 
     /// The record at the start of bytes, and what follows it. `None` where they start with no

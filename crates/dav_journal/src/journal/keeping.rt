@@ -7,11 +7,13 @@ ghost use Rattle.dav_journal.specs.Mark.{IsLastMark, IsMark, IsMarkPlace, NoneMa
 ghost use Rattle.dav_journal.specs.declared.error.JournalError.TheVariants.{Damaged};
 ghost use Rattle.dav_journal.specs.Error.{IsNoDamage};
 ghost use Rattle.dav_journal.specs.Journal.{HasRead, IsBare, IsClean, IsCleared, IsKept, IsOpened, IsReading, IsShut, IsSynced, IsWrittenBlock, LeavesAtMost, LeavesEither, LeavesOnly, OnlyReads, Stays, blocks_end, blocks_len, disk_of, file_of};
+ghost use Rattle.dav_journal.specs.Parts.{IsGated, bytes_in};
 ghost use Rattle.dav_journal.specs.Write.{HasZeros, KeepsBelow};
 
-use crate::block::{HEAD, bytes_of};
+use crate::block::{HEAD, first_part, last_part};
 use crate::error::JournalError;
 use crate::journal::{Journal, PIECE};
+use crate::parts::Parts;
 use crate::write::{write_once, write_twice};
 use sqlite_disk::Disk;
 use std::alloc::Global;
@@ -95,8 +97,29 @@ impl<D: Disk + Drop> Journal<D> {
         ensures any_moment { (contents : List (List ℕ)) → IsKept D.Disk self.old contents
             → LeavesAtMost D.Disk (disk_of self.new) contents content.now }
     {
-        let bytes = bytes_of(alloc, self.key, self.end as u64, content)?;
-        let Some(zeros) = self.end.checked_add(bytes.len()) else {
+        self.keep_both(alloc, content, &[])
+    }
+
+    /// The same, of a content that is in two parts, of which the second one is written from where it is.
+    pub fn keep_both(
+        &mut self,
+        alloc: Global,
+        content: &[u8],
+        body: &[u8],
+    ) -> Result<(), JournalError>
+        ensures clean { IsClean D.Disk self.new → IsClean D.Disk self.old }
+        ensures kept { OnOk result ((contents : List (List ℕ)) → IsKept D.Disk self.old contents
+            → IsKept D.Disk self.new (contents ++ (content.now ++ body.now) ∷ [])) }
+        ensures any_moment { (contents : List (List ℕ)) → IsKept D.Disk self.old contents
+            → LeavesAtMost D.Disk (disk_of self.new) contents (content.now ++ body.now) }
+    {
+        let first = first_part(alloc, self.key, self.end as u64, content, body)?;
+        let bytes = Parts {
+            first: first.as_slice(),
+            body,
+            last: last_part(body),
+        };
+        let Some(zeros) = bytes.end_from(self.end) else {
             return Err(JournalError::NoRoom);
         };
         if !self.disk.may_be_used() {
@@ -107,19 +130,18 @@ impl<D: Disk + Drop> Journal<D> {
     }
 
     // Writes a block, and the gate after it, so that both are kept.
-    fn write(&mut self, end: usize, bytes: &[u8]) -> Result<(), JournalError>
+    fn write(&mut self, end: usize, bytes: &Parts<'_>) -> Result<(), JournalError>
         requires usable { IsTrue (D.Disk.is_usable (disk_of self.old)) }
-        requires some { 1 < length bytes.now }
-        requires opens { slice_index bytes.now 0 ≡ 1 }
-        requires ends { end + 1 ≡ blocks_end self.old + length bytes.now }
+        requires gated { IsGated bytes.now }
+        requires ends { end + 1 ≡ blocks_end self.old + length (bytes_in bytes.now) }
         requires fits { end + 1 < 2 ^ 64 }
         ensures clean { IsClean D.Disk self.new → IsClean D.Disk self.old }
         ensures kept { OnOk result ((contents : List (List ℕ)) (content : List ℕ)
-            → IsWrittenBlock self.old content bytes.now → IsKept D.Disk self.old contents
+            → IsWrittenBlock self.old content (bytes_in bytes.now) → IsKept D.Disk self.old contents
             → IsKept D.Disk self.new (contents ++ content ∷ [])) }
         ensures synced { OnOk result (IsSynced D.Disk self.new) }
         ensures any_moment { (contents : List (List ℕ)) (content : List ℕ)
-            → IsWrittenBlock self.old content bytes.now → IsKept D.Disk self.old contents
+            → IsWrittenBlock self.old content (bytes_in bytes.now) → IsKept D.Disk self.old contents
             → LeavesAtMost D.Disk (disk_of self.new) contents content }
     {
         if self.disk.mixes() && end < self.zeros {
@@ -129,19 +151,18 @@ impl<D: Disk + Drop> Journal<D> {
     }
 
     // Writes a block, and the gate after it, by two syncs.
-    fn keep_twice(&mut self, end: usize, bytes: &[u8]) -> Result<(), JournalError>
+    fn keep_twice(&mut self, end: usize, bytes: &Parts<'_>) -> Result<(), JournalError>
         requires usable { IsTrue (D.Disk.is_usable (disk_of self.old)) }
-        requires some { 1 < length bytes.now }
-        requires opens { slice_index bytes.now 0 ≡ 1 }
-        requires ends { end + 1 ≡ blocks_end self.old + length bytes.now }
+        requires gated { IsGated bytes.now }
+        requires ends { end + 1 ≡ blocks_end self.old + length (bytes_in bytes.now) }
         requires fits { end + 1 < 2 ^ 64 }
         ensures clean { IsClean D.Disk self.new → IsClean D.Disk self.old }
         ensures kept { OnOk result ((contents : List (List ℕ)) (content : List ℕ)
-            → IsWrittenBlock self.old content bytes.now → IsKept D.Disk self.old contents
+            → IsWrittenBlock self.old content (bytes_in bytes.now) → IsKept D.Disk self.old contents
             → IsKept D.Disk self.new (contents ++ content ∷ [])) }
         ensures synced { OnOk result (IsSynced D.Disk self.new) }
         ensures any_moment { (contents : List (List ℕ)) (content : List ℕ)
-            → IsWrittenBlock self.old content bytes.now → IsKept D.Disk self.old contents
+            → IsWrittenBlock self.old content (bytes_in bytes.now) → IsKept D.Disk self.old contents
             → LeavesAtMost D.Disk (disk_of self.new) contents content }
     {
         write_twice(&mut self.disk, self.end, bytes)?;
@@ -152,20 +173,20 @@ impl<D: Disk + Drop> Journal<D> {
     }
 
     // Writes a block over zeros that are kept, and the gate after it, by one sync.
-    fn keep_once(&mut self, end: usize, bytes: &[u8]) -> Result<(), JournalError>
+    fn keep_once(&mut self, end: usize, bytes: &Parts<'_>) -> Result<(), JournalError>
         requires usable { IsTrue (D.Disk.is_usable (disk_of self.old)) }
         requires mixes { IsTrue (D.Disk.is_mixing (disk_of self.old)) }
-        requires some { 1 < length bytes.now }
-        requires ends { end + 1 ≡ blocks_end self.old + length bytes.now }
+        requires gated { IsGated bytes.now }
+        requires ends { end + 1 ≡ blocks_end self.old + length (bytes_in bytes.now) }
         requires room { end + 1 ≤ self.old.zeros }
         requires fits { end + 1 < 2 ^ 64 }
         ensures clean { IsClean D.Disk self.new → IsClean D.Disk self.old }
         ensures kept { OnOk result ((contents : List (List ℕ)) (content : List ℕ)
-            → IsWrittenBlock self.old content bytes.now → IsKept D.Disk self.old contents
+            → IsWrittenBlock self.old content (bytes_in bytes.now) → IsKept D.Disk self.old contents
             → IsKept D.Disk self.new (contents ++ content ∷ [])) }
         ensures synced { OnOk result (IsSynced D.Disk self.new) }
         ensures any_moment { (contents : List (List ℕ)) (content : List ℕ)
-            → IsWrittenBlock self.old content bytes.now → IsKept D.Disk self.old contents
+            → IsWrittenBlock self.old content (bytes_in bytes.now) → IsKept D.Disk self.old contents
             → LeavesAtMost D.Disk (disk_of self.new) contents content }
     {
         write_once(&mut self.disk, self.end, bytes)?;

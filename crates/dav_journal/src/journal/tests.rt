@@ -5,6 +5,7 @@ use crate::journal::Journal;
 use sqlite_disk::{Crash, Disk, Fuse, Memory};
 use std::alloc::Global;
 use std::mem;
+use std::process::Abort;
 use std::test::Fail;
 
 /// What is kept in each test.
@@ -39,14 +40,38 @@ fn read<D: Disk + Drop>(alloc: Global, journal: &mut Journal<D>) -> Result<usize
     })
 }
 
+// Keeps a content, in two parts perhaps.
+fn keep_one<D: Disk + Drop>(
+    alloc: Global,
+    journal: &mut Journal<D>,
+    content: &[u8],
+    in_parts: bool,
+) -> Result<(), JournalError> {
+    if in_parts {
+        let half = content.len() / 2;
+        return journal.keep_both(alloc, &content[..half], &content[half..]);
+    }
+    journal.keep(alloc, content)
+}
+
 // Keeps the contents in a journal that has so many of them: how many it has then, as far as was answered.
 fn keep<D: Disk + Drop>(alloc: Global, journal: &mut Journal<D>, first: usize) -> usize {
+    keep_them(alloc, journal, first, false)
+}
+
+// The same, each in two parts perhaps.
+fn keep_them<D: Disk + Drop>(
+    alloc: Global,
+    journal: &mut Journal<D>,
+    first: usize,
+    in_parts: bool,
+) -> usize {
     if journal.cut().is_err() {
         return first;
     }
     let mut kept = first;
     for content in CONTENTS.iter().skip(first) {
-        if journal.keep(alloc, content).is_err() {
+        if keep_one(alloc, journal, content, in_parts).is_err() {
             break;
         }
         kept = kept.saturating_add(1);
@@ -57,11 +82,20 @@ fn keep<D: Disk + Drop>(alloc: Global, journal: &mut Journal<D>, first: usize) -
 /// Each call is the last before a crash, and then each of the start after that.
 #[test]
 fn a_crash_at_each_call(rt: HostRuntime) -> Result<(), Fail> {
-    let alloc = rt.alloc();
-    for calls in 0..40 {
+    crash_at_each_call(&rt, rt.alloc(), false)
+}
+
+/// The same, where each content is kept in two parts.
+#[test]
+fn a_crash_at_each_call_of_parts(rt: HostRuntime) -> Result<(), Fail> {
+    crash_at_each_call(&rt, rt.alloc(), true)
+}
+
+fn crash_at_each_call(rt: &impl Abort, alloc: Global, in_parts: bool) -> Result<(), Fail> {
+    for calls in 0..50 {
         let mut journal = Journal::new(Fuse::new(Memory::new(alloc), calls));
         let kept = match read(alloc, &mut journal) {
-            Ok(found) => keep(alloc, &mut journal, found),
+            Ok(found) => keep_them(alloc, &mut journal, found, in_parts),
             Err(_) => 0,
         };
         journal.disk.crash();
@@ -70,7 +104,11 @@ fn a_crash_at_each_call(rt: HostRuntime) -> Result<(), Fail> {
             found == kept || found == kept.saturating_add(1),
             "{calls} calls: {kept} kept, {found} found"
         );
-        assert_eq!(rt; keep(alloc, &mut journal, found), 3, "{calls} calls");
+        assert_eq!(rt;
+            keep_them(alloc, &mut journal, found, in_parts),
+            3,
+            "{calls} calls"
+        );
         journal.disk.crash();
         assert_eq!(rt; read(alloc, &mut journal)?, 3, "{calls} calls");
     }

@@ -135,23 +135,47 @@ impl<D: Disk + Drop> Pair<D> {
             → OnlyReadsPair D.Disk self.old self.new ⊎ IsOwnPair D.Disk self.old }
     {
         self.look()?;
-        self.add(alloc, content)
+        self.add(alloc, content, &[])
     }
 
-    // Writes a block after the others.
-    fn add(&mut self, alloc: Global, content: &[u8]) -> Result<(), JournalError>
+    /// The same, of a content that is in two parts, of which the second one is written from where it
+    /// is: no copy of it is made.
+    pub fn keep_both(
+        &mut self,
+        alloc: Global,
+        content: &[u8],
+        body: &[u8],
+    ) -> Result<(), JournalError>
         ensures clean { IsCleanPair D.Disk self.new → IsCleanPair D.Disk self.old }
         ensures kept { OnOk result ((contents : List (List ℕ))
             → IsKeptPair D.Disk self.old contents
-            → IsKeptPair D.Disk self.new (contents ++ content.now ∷ [])) }
+            → IsKeptPair D.Disk self.new (contents ++ (content.now ++ body.now) ∷ [])) }
         ensures any_moment { (contents : List (List ℕ)) → IsKeptPair D.Disk self.old contents
-            → PairLeaves D.Disk self.new contents (contents ++ content.now ∷ []) }
+            → PairLeaves D.Disk self.new contents
+            (contents ++ (content.now ++ body.now) ∷ []) }
+        ensures own { OnOk result (IsCleanPair D.Disk self.new → IsOwnPair D.Disk self.old) }
+        ensures passed { IsCleanPair D.Disk self.new
+            → OnlyReadsPair D.Disk self.old self.new ⊎ IsOwnPair D.Disk self.old }
+    {
+        self.look()?;
+        self.add(alloc, content, body)
+    }
+
+    // Writes a block after the others, of a content that is in two parts.
+    fn add(&mut self, alloc: Global, content: &[u8], body: &[u8]) -> Result<(), JournalError>
+        ensures clean { IsCleanPair D.Disk self.new → IsCleanPair D.Disk self.old }
+        ensures kept { OnOk result ((contents : List (List ℕ))
+            → IsKeptPair D.Disk self.old contents
+            → IsKeptPair D.Disk self.new (contents ++ (content.now ++ body.now) ∷ [])) }
+        ensures any_moment { (contents : List (List ℕ)) → IsKeptPair D.Disk self.old contents
+            → PairLeaves D.Disk self.new contents
+            (contents ++ (content.now ++ body.now) ∷ []) }
     {
         if self.counts.len() == START {
             let block = first_block(alloc, self.generation, content)?;
-            return self.counts.keep(alloc, &block);
+            return self.counts.keep_both(alloc, &block, body);
         }
-        self.counts.keep(alloc, content)
+        self.counts.keep_both(alloc, content, body)
     }
 
     /// Makes sure, in a quiet moment, that the mark of the last block is kept too, as the next
@@ -213,8 +237,8 @@ impl<D: Disk + Drop> Pair<D> {
         let Some(generation) = self.generation.checked_add(1) else {
             return Err(JournalError::NoRoom);
         };
-        let block = first_block(alloc, generation, content)?;
-        self.spare.keep(alloc, &block)?;
+        self.spare
+            .keep_both(alloc, &generation.to_be_bytes(), content)?;
         self.spare.keep_mark()?;
         self.turn(generation);
         self.spare.clear()

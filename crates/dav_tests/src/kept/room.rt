@@ -68,6 +68,11 @@ impl Keeps for Full {
         Ok(())
     }
 
+    fn keep_both(&mut self, _alloc: Global, _block: &[u8], _body: &[u8]) -> Result<(), KeptError> {
+        self.blocks = self.blocks.saturating_add(1);
+        Ok(())
+    }
+
     fn room_to_renew(&mut self, _size: usize) -> Result<bool, KeptError> {
         Ok(false)
     }

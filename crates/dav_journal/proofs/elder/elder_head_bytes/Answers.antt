@@ -1,4 +1,4 @@
-use Rattle.std.proofs.Common.{◌≡◌, ◌++◌, ◌∙◌, ℕ, List, ap, length}
+use Rattle.std.proofs.Common.{◌≡◌, ◌++◌, ◌∙◌, ℕ, ap, length}
 use Rattle.std.specs.Int.{w64, to_be_bytes}
 use Rattle.sqlite_disk.specs.Digest.{digest}
 use Rattle.dav_journal.specs.Block.{digest_at}

@@ -1,7 +1,6 @@
-use Rattle.std.proofs.Common.{◌≡◌, ◌∷◌, List, ℕ, None, refl, sym, ◌∙◌, subst, inl, rules}
+use Rattle.std.proofs.Common.{◌∷◌, List, ℕ, refl, sym, ◌∙◌, subst, inl, rules}
 use Rattle.dav_journal.specs.Elder.{LeavesGoing, LeavesGone}
 use Rattle.dav_journal.specs.Pair.{LeavesFormer, PairLeavesOnly}
-use Rattle.dav_kept.specs.Kept.{first_block}
 use Rattle.dav_kept.proofs.former.adopt.Goals as goal
 
 pub returns-in_err-first-clause-any_moment : goal.returns-in_err-first-clause-any_moment

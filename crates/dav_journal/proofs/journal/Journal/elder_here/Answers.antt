@@ -1,4 +1,4 @@
-use Rattle.std.proofs.Common.{◌≡◌, ℕ, ◌<◌, ◌^◌, List, length, sym, ◌∙◌, ap, arith, rules}
+use Rattle.std.proofs.Common.{◌≡◌, ℕ, List, length, sym, ◌∙◌, ap, arith, rules}
 use Rattle.sqlite_disk.specs.Disk.{Holds}
 use Rattle.dav_journal.specs.Elder.{elder_head}
 use Rattle.dav_journal.proofs.ElderLemmas.{no_elder_read, no_elder_short, no_elder_told, read_elder}

@@ -1,4 +1,4 @@
-use Rattle.std.proofs.Common.{◌≡◌, ◌∙◌, List, ℕ, length, replicate, sym, subst, refl, rules, arith}
+use Rattle.std.proofs.Common.{◌∙◌, List, ℕ, replicate, sym, subst, refl, arith}
 use Rattle.sqlite_disk.specs.Disk.{Mixed}
 use Rattle.dav_journal.specs.Elder.{IsGoing}
 use Rattle.dav_journal.proofs.GoingLemmas.{Fades, front_long, going_fades, held_zeros, mixed_fades, reading_fades, written_fades}

@@ -1,4 +1,4 @@
-use Rattle.std.proofs.Common.{◌≡◌, ◌∙◌, ◌<◌, [], List, ℕ, length, replicate, sym, subst, ap, refl, rules, arith}
+use Rattle.std.proofs.Common.{◌≡◌, ◌∙◌, List, ℕ, length, replicate, sym, subst, ap, rules, arith}
 use Rattle.sqlite_disk.specs.Disk.{Holds}
 use Rattle.dav_journal.specs.Elder.{elder_head}
 use Rattle.dav_journal.specs.Mark.{IsFaint}

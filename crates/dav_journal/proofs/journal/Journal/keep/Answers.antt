@@ -1,26 +1,13 @@
-use Rattle.std.proofs.Common.{inl, inr, ◌∙◌}
+use Rattle.std.proofs.Common.{◌++◌, ◌∷◌, [], List, ℕ, subst}
+use Rattle.std.proofs.lemmas.List.{append-nil}
 use Rattle.std.proofs.lemmas.Result.{on_ok_weaker}
-use Rattle.dav_journal.proofs.BlockLemmas.{rests_recovers}
+use Rattle.dav_journal.specs.Journal.{IsKept, LeavesAtMost}
 use Rattle.dav_journal.proofs.journal.Journal.keep.Goals as goal
 
-pub returns-in_err-bytes-clause-any_moment : goal.returns-in_err-bytes-clause-any_moment
-returns-in_err-bytes-clause-any_moment g c contents kept left may =
-    inl (rests_recovers c.args.self.now.key contents _ _ left kept.small (kept.outcomes left may))
-
-pub returns-in_default-clause-any_moment : goal.returns-in_default-clause-any_moment
-returns-in_default-clause-any_moment g c contents kept left may =
-    inl (rests_recovers c.args.self.now.key contents _ _ left kept.small (kept.outcomes left may))
-
-pub returns-then-not-may_be_used-clause-any_moment : goal.returns-then-not-may_be_used-clause-any_moment
-returns-then-not-may_be_used-clause-any_moment g c contents kept left may =
-    inl (rests_recovers c.args.self.now.key contents _ _ left kept.small (kept.outcomes left may))
-
 pub returns-clause-any_moment : goal.returns-clause-any_moment
-returns-clause-any_moment g c contents kept left may =
-    let more = c.in_ok-write.ensures.kept contents c.args.content.now (c.deref.ensures.value ∙ c.in_ok-bytes.ensures) kept in
-    inr (c.set_mark.ensures.any_moment _ more c.in_ok-write.ensures.synced left may)
+returns-clause-any_moment g c contents kept =
+    subst (λ (l : List ℕ). LeavesAtMost g.D.Disk c.keep_both.new.self.disk contents l) (append-nil c.args.content.now) (c.keep_both.ensures.any_moment contents kept)
 
 pub returns-clause-kept : goal.returns-clause-kept
-returns-clause-kept g c =
-    on_ok_weaker c.set_mark.result
-    (λ marked contents kept. marked _ (c.in_ok-write.ensures.kept contents c.args.content.now (c.deref.ensures.value ∙ c.in_ok-bytes.ensures) kept) c.in_ok-write.ensures.synced) c.set_mark.ensures.kept
+returns-clause-kept g c = on_ok_weaker c.keep_both.result (λ more contents kept.
+    subst (λ (l : List ℕ). IsKept g.D.Disk c.keep_both.new.self (contents ++ l ∷ [])) (append-nil c.args.content.now) (more contents kept)) c.keep_both.ensures.kept

@@ -1,5 +1,6 @@
 use Rattle.std.proofs.Common.{ℕ, List, [], ◌∷◌, ◌++◌, sym, subst, arith}
 use Rattle.dav_journal.specs.Journal.{Rests}
+use Rattle.dav_journal.specs.Parts.{bytes_in}
 use Rattle.dav_journal.proofs.BlockLemmas.{blocks_le, content_small}
 use Rattle.dav_journal.proofs.CutLemmas.{torn_front}
 use Rattle.dav_journal.proofs.MarkLemmas.{blank_kept}
@@ -16,7 +17,7 @@ returns-clause-any_moment g c contents content is kept left may =
 
 pub returns-clause-kept : goal.returns-clause-kept
 returns-clause-kept g c contents content is kept =
-    let fits = content_small _ _ content c.args.bytes.now is (omega (arith, c.requires.ends, c.requires.fits)) in
+    let fits = content_small _ _ content (bytes_in c.args.bytes.now) is (omega (arith, c.requires.ends, c.requires.fits)) in
     let now = kept.outcomes (g.D.Disk.seen c.args.self.now.disk) (g.met.D.Disk.seen_may_stay c.args.self.now.disk) in
     let rests = rests_once c.args.self.now.key contents content _ c.args.self.now.end c.args.self.now.zeros c.args.end _ _ fits is c.requires.ends c.requires.room now c.write_once.ensures.others c.in_ok-write_once.ensures.written in
     record {

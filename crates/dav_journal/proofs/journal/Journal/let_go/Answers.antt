@@ -1,5 +1,4 @@
-use Rattle.std.proofs.Common.{◌≡◌, ◌∙◌, [], List, ℕ, sym, subst, inl, inr, rules}
-use Rattle.std.proofs.lemmas.Result.{on_ok_weaker}
+use Rattle.std.proofs.Common.{[], List, ℕ, sym, subst, inl, inr}
 use Rattle.dav_journal.specs.File.{Recovers}
 use Rattle.dav_journal.proofs.journal.Journal.let_go.Goals as goal
 

@@ -1,8 +1,7 @@
-use Rattle.std.proofs.Common.{◌≡◌, ◌∙◌, ◌+◌, ◌<◌, List, ℕ, length, slice_index, replicate, drop, take, sym, subst, ap, refl, rules, arith}
-use Rattle.std.proofs.lemmas.List.{ext_get_or, get_or-drop, get_or-replicate, length-replicate}
+use Rattle.std.proofs.Common.{◌≡◌, ◌∙◌, List, ℕ, replicate, sym, subst, ap, rules, arith}
 use Rattle.sqlite_disk.specs.Disk.{Mixed}
 use Rattle.dav_journal.specs.Elder.{IsGoing, elder_head}
-use Rattle.dav_journal.proofs.ElderLemmas.{length-elder, one_elder_key, zero_digests}
+use Rattle.dav_journal.proofs.ElderLemmas.{one_elder_key, zero_digests}
 use Rattle.dav_journal.proofs.GoingLemmas.{loses, lost_going}
 use Rattle.dav_journal.proofs.journal.Journal.lose_head.Goals as goal
 

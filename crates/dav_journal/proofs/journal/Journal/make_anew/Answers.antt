@@ -1,5 +1,4 @@
-use Rattle.std.proofs.Common.{◌≡◌, ◌∙◌, [], List, ℕ, length, replicate, sym, subst, inl, ap, rules, arith}
-use Rattle.sqlite_disk.specs.Disk.{Mixed}
+use Rattle.std.proofs.Common.{◌≡◌, [], List, ℕ, length, sym, subst, arith}
 use Rattle.dav_journal.specs.File.{Recovers}
 use Rattle.dav_journal.proofs.GoingLemmas.{emptied_begun, emptied_is_begun, made_recovers, new_long}
 use Rattle.dav_journal.proofs.journal.Journal.make_anew.Goals as goal

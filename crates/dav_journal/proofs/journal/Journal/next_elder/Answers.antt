@@ -1,4 +1,4 @@
-use Rattle.std.proofs.Common.{◌≡◌, ℕ, ◌+◌, [], ◌∷◌, ◌++◌, List, length, sym, ◌∙◌, subst, arith}
+use Rattle.std.proofs.Common.{◌≡◌, ℕ, ◌+◌, [], ◌∷◌, ◌++◌, length, subst, arith}
 use Rattle.dav_journal.specs.Elder.{AreElder, elder_end}
 use Rattle.dav_journal.proofs.ElderLemmas.{elder_more, elder_stays}
 use Rattle.dav_journal.proofs.JournalLemmas.{stays_then}

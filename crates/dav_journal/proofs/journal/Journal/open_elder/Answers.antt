@@ -1,5 +1,4 @@
-use Rattle.std.proofs.Common.{◌≡◌, ◌∙◌, ◌<◌, ◌≤◌, [], List, ℕ, length, codes, sym, subst, ap, refl, rules, arith}
-use Rattle.std.proofs.lemmas.Nat.{be_bytes_8}
+use Rattle.std.proofs.Common.{◌≡◌, ◌∙◌, List, ℕ, length, codes, sym, subst, ap, refl, rules, arith}
 use Rattle.std.specs.Int.{w64, to_be_bytes}
 use Rattle.sqlite_disk.specs.Disk.{Holds}
 use Rattle.dav_journal.specs.Mark.{IsFaint}

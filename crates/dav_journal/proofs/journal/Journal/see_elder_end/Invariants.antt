@@ -1,4 +1,4 @@
-use Rattle.std.proofs.Common.{ℕ, ◌-◌}
+use Rattle.std.proofs.Common.{◌-◌}
 use Rattle.dav_journal.specs.Journal.{Stays}
 use Rattle.dav_journal.proofs.journal.Journal.see_elder_end.Given as goal
 

@@ -1,5 +1,4 @@
-use Rattle.std.proofs.Common.{◌≡◌, ◌∙◌, List, ℕ, length, replicate, sym, subst, rules, arith}
-use Rattle.sqlite_disk.specs.Disk.{Torn}
+use Rattle.std.proofs.Common.{List, ℕ, sym, subst, arith}
 use Rattle.dav_journal.specs.Elder.{IsEmptied, IsLetGo}
 use Rattle.dav_journal.proofs.GoingLemmas.{cut_forty, emptied, let_go_kept, torn_forty}
 use Rattle.dav_journal.proofs.journal.Journal.shorten.Goals as goal

@@ -1,7 +1,6 @@
-use Rattle.std.proofs.Common.{◌≡◌, ◌≢◌, ◌+◌, ℕ, List, [], length, slice_index, sym, ◌∙◌, ap, subst, inl, inr, arith, rules}
+use Rattle.std.proofs.Common.{◌≡◌, ◌≢◌, ◌+◌, ℕ, List, [], length, slice_index, sym, ◌∙◌, ap, subst, inl, arith, rules}
 use Rattle.sqlite_disk.specs.Disk.{Torn}
 use Rattle.dav_journal.specs.Journal.{Ends}
-use Rattle.dav_journal.proofs.BlockLemmas.{no_block}
 use Rattle.dav_journal.proofs.ClearLemmas.{bare_ends, first_left, torn_blank, torn_has}
 use Rattle.dav_journal.proofs.journal.Journal.shut_first.Goals as goal
 

@@ -1,5 +1,4 @@
-use Rattle.std.proofs.Common.{◌∷◌, ◌++◌, [], List, ℕ, refl, sym, subst, inl, inr, rules}
-use Rattle.std.proofs.lemmas.Result.{on_ok_weaker}
+use Rattle.std.proofs.Common.{◌∷◌, ◌++◌, List, ℕ, refl, sym, subst, inl, inr, rules}
 use Rattle.std.specs.Int.{w64, to_be_bytes}
 use Rattle.dav_journal.specs.Journal.{IsKept, OnlyReads, disk_of}
 use Rattle.dav_journal.specs.Pair.{IsCleanPair}

@@ -1,4 +1,4 @@
-use Rattle.std.proofs.Common.{◌≡◌, ◌∷◌, ◌++◌, [], List, ℕ, refl, inl, inr, rules}
+use Rattle.std.proofs.Common.{refl, inl, inr, rules}
 use Rattle.dav_journal.specs.Pair.{IsCleanPair}
 use Rattle.dav_journal.proofs.AdoptLemmas.{taken_over}
 use Rattle.dav_journal.proofs.pair.Pair.adopt_elder.Goals as goal

@@ -1,9 +1,8 @@
-use Rattle.std.proofs.Common.{◌≡◌, ◌+◌, ◌++◌, ◌<◌, ◌^◌, [], ◌∷◌, List, ℕ, subst, sym, ◌∙◌, inl, inr, arith}
+use Rattle.std.proofs.Common.{◌≡◌, ◌+◌, ◌++◌, [], ◌∷◌, ap, List, ℕ, subst, sym, inl, inr, arith}
 use Rattle.std.proofs.lemmas.Result.{on_ok_weaker}
 use Rattle.std.specs.Int.{w64, to_be_bytes}
 use Rattle.dav_journal.specs.File.{Recovers}
-use Rattle.dav_journal.specs.Journal.{IsKept, IsOpened, LeavesOnly}
-use Rattle.dav_journal.specs.Pair.{with_generation}
+use Rattle.dav_journal.specs.Journal.{IsKept}
 use Rattle.dav_journal.proofs.PairLemmas.{kept_opened, kept_recovers, next_is_older, pair_alone, pair_renewed, turned}
 use Rattle.dav_journal.proofs.pair.Pair.begin_anew.Given as given
 use Rattle.dav_journal.proofs.pair.Pair.begin_anew.Goals as goal
@@ -13,20 +12,15 @@ returns-in_default-clause-any_moment g c clean contents kept left other may migh
     let p = c.args.self.now in
     inl (pair_alone left other p.generation contents kept.small (kept_recovers g.D.Disk p.counts _ kept.kept left may) (kept_recovers g.D.Disk p.spare _ kept.spare other might))
 
-pub returns-in_err-block-clause-any_moment : goal.returns-in_err-block-clause-any_moment
-returns-in_err-block-clause-any_moment g c clean contents kept left other may might =
-    let p = c.args.self.now in
-    inl (pair_alone left other p.generation contents kept.small (kept_recovers g.D.Disk p.counts _ kept.kept left may) (kept_recovers g.D.Disk p.spare _ kept.spare other might))
-
-pub returns-in_err-keep-clause-any_moment : goal.returns-in_err-keep-clause-any_moment
-returns-in_err-keep-clause-any_moment g c clean contents kept left other may might =
+pub returns-in_err-keep_both-clause-any_moment : goal.returns-in_err-keep_both-clause-any_moment
+returns-in_err-keep_both-clause-any_moment g c clean contents kept left other may might =
     let p = c.args.self.now in
     let counts = kept_recovers g.D.Disk p.counts _ kept.kept left may in
     let next : c.in-Some.generation ≡ p.generation + 1 = omega arith in
-    elim (c.keep.ensures.any_moment [] kept.spare other might) [
+    elim (c.keep_both.ensures.any_moment [] kept.spare other might) [
       | inl none ↦ inl (pair_alone left other p.generation contents kept.small counts none)
       | inr block ↦ inr (turned other left (c.args.content.now ∷ []) (pair_renewed other left c.in-Some.generation c.args.content.now _ (omega arith)
-          (subst (λ (b : List ℕ). Recovers other (b ∷ [])) (c.deref.ensures.value ∙ c.in_ok-block.ensures) block) counts (next_is_older p.generation c.in-Some.generation contents next)))
+          (subst (λ (b : List ℕ). Recovers other (b ∷ [])) (ap (λ (l : List ℕ). l ++ c.args.content.now) c.to_be_bytes.ensures) block) counts (next_is_older p.generation c.in-Some.generation contents next)))
     ]
 
 pub returns-in_err-keep_mark-clause-any_moment : goal.returns-in_err-keep_mark-clause-any_moment
@@ -34,18 +28,18 @@ returns-in_err-keep_mark-clause-any_moment g c clean contents kept left other ma
     let p = c.args.self.now in
     let counts = kept_recovers g.D.Disk p.counts _ kept.kept left may in
     let next : c.in-Some.generation ≡ p.generation + 1 = omega arith in
-    let block = c.keep_mark.ensures.any_moment _ (c.in_ok-keep.ensures.kept [] kept.spare) other might in
+    let block = c.keep_mark.ensures.any_moment _ (c.in_ok-keep_both.ensures.kept [] kept.spare) other might in
     inr (turned other left (c.args.content.now ∷ []) (pair_renewed other left c.in-Some.generation c.args.content.now _ (omega arith)
-    (subst (λ (b : List ℕ). Recovers other (b ∷ [])) (c.deref.ensures.value ∙ c.in_ok-block.ensures) block) counts (next_is_older p.generation c.in-Some.generation contents next)))
+    (subst (λ (b : List ℕ). Recovers other (b ∷ [])) (ap (λ (l : List ℕ). l ++ c.args.content.now) c.to_be_bytes.ensures) block) counts (next_is_older p.generation c.in-Some.generation contents next)))
 
 -- the file that counts now
-now_kept : (g : given.Over) (c : goal.After-drop-block-2 g) → IsKept g.D.Disk c.args.self.now.spare [] → IsKept g.D.Disk c.turn.new.self.counts ((to_be_bytes w64 c.in-Some.generation ++ c.args.content.now) ∷ [])
+now_kept : (g : given.Over) (c : goal.After-clear g) → IsKept g.D.Disk c.args.self.now.spare [] → IsKept g.D.Disk c.turn.new.self.counts ((to_be_bytes w64 c.in-Some.generation ++ c.args.content.now) ∷ [])
 now_kept g c spare =
-    let marked = c.in_ok-keep_mark.ensures.kept _ (c.in_ok-keep.ensures.kept [] spare) in
+    let marked = c.in_ok-keep_mark.ensures.kept _ (c.in_ok-keep_both.ensures.kept [] spare) in
     subst (λ j. IsKept g.D.Disk j ((to_be_bytes w64 c.in-Some.generation ++ c.args.content.now) ∷ [])) (sym c.turn.ensures.counts)
-    (subst (λ (b : List ℕ). IsKept g.D.Disk c.keep_mark.new.self (b ∷ [])) (c.deref.ensures.value ∙ c.in_ok-block.ensures) marked)
+    (subst (λ (b : List ℕ). IsKept g.D.Disk c.keep_mark.new.self (b ∷ [])) (ap (λ (l : List ℕ). l ++ c.args.content.now) c.to_be_bytes.ensures) marked)
 
-was_kept : (g : given.Over) (c : goal.After-drop-block-2 g) (contents : List (List ℕ)) → IsKept g.D.Disk c.args.self.now.counts contents → IsKept g.D.Disk c.turn.new.self.spare contents
+was_kept : (g : given.Over) (c : goal.After-clear g) (contents : List (List ℕ)) → IsKept g.D.Disk c.args.self.now.counts contents → IsKept g.D.Disk c.turn.new.self.spare contents
 was_kept g c contents kept = subst (λ j. IsKept g.D.Disk j contents) (sym c.turn.ensures.spare) kept
 
 pub returns-clause-kept : goal.returns-clause-kept

@@ -1,4 +1,4 @@
-use Rattle.std.proofs.Common.{◌≡◌, ◌<◌, ◌^◌, [], ℕ, Some, refl, sym, ◌∙◌, subst, ap, inl, inr, arith}
+use Rattle.std.proofs.Common.{◌<◌, ◌^◌, [], ℕ, Some, refl, sym, subst, inl, inr, arith}
 use Rattle.dav_journal.specs.Journal.{IsReading}
 use Rattle.dav_journal.specs.Pair.{HasFirst, IsSpare}
 use Rattle.dav_journal.proofs.PairLemmas.{first_spare}

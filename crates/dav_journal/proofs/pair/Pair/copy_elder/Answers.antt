@@ -1,6 +1,6 @@
-use Rattle.std.proofs.Common.{◌≡◌, ◌∙◌, ◌∷◌, ◌++◌, [], List, ℕ, sym, refl, subst, inl, inr, rules}
+use Rattle.std.proofs.Common.{◌∷◌, ◌++◌, [], List, ℕ, sym, refl, subst, inl, inr, rules}
 use Rattle.std.specs.Int.{w64, to_be_bytes}
-use Rattle.dav_journal.specs.Elder.{ElderRecovers, IsGoing, IsReadingElder}
+use Rattle.dav_journal.specs.Elder.{ElderRecovers}
 use Rattle.dav_journal.specs.File.{Recovers}
 use Rattle.dav_journal.proofs.ElderLemmas.{elder_stays}
 use Rattle.dav_journal.proofs.ElderPairLemmas.{let_go_front, not_going, not_let_go, not_newer, read_elder_blocks, read_nothing, same_rest}

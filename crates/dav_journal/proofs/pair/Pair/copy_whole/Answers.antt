@@ -1,4 +1,4 @@
-use Rattle.std.proofs.Common.{◌∷◌, [], List, ℕ, rules}
+use Rattle.std.proofs.Common.{◌∷◌, [], rules}
 use Rattle.dav_journal.proofs.pair.Pair.copy_whole.Goals as goal
 
 pub returns-clause-copied : goal.returns-clause-copied

@@ -1,4 +1,4 @@
-use Rattle.std.proofs.Common.{◌∷◌, List, ℕ, sym, ◌∙◌, subst, rules}
+use Rattle.std.proofs.Common.{List, ℕ, sym, subst, rules}
 use Rattle.dav_journal.specs.File.{Recovers}
 use Rattle.dav_journal.proofs.PairLemmas.{reads_then}
 use Rattle.dav_journal.proofs.pair.Pair.has_former.Goals as goal

@@ -1,4 +1,4 @@
-use Rattle.std.proofs.Common.{◌≡◌, Err, IsTrue, Some, ap, sym, ◌∙◌, subst, arith}
+use Rattle.std.proofs.Common.{Err, IsTrue, Some, ap, sym, ◌∙◌, subst}
 use Rattle.std.proofs.lemmas.Result.{err_from_is_err_and}
 use Rattle.dav_journal.specs.Pair.{HasFirst}
 use Rattle.dav_journal.proofs.JournalLemmas.{err_moved}

@@ -1,4 +1,4 @@
-use Rattle.std.proofs.Common.{◌≡◌, ◌∷◌, [], List, ℕ, ap, ◌∙◌, subst, inr}
+use Rattle.std.proofs.Common.{◌∷◌, [], List, ℕ, ◌∙◌, subst, inr}
 use Rattle.dav_kept.specs.Kept.{Holding, with_batch}
 use Rattle.dav_kept.proofs.KeptLemmas.{first_same, if_some}
 use Rattle.dav_kept.proofs.kept.Kept.snapshot.Goals as goal
@@ -12,7 +12,7 @@ returns-in_err-renew-clause-any_moment g c clean blocks kept =
     let same = first_same g.H.Handles.saved k c.commit.new.self c.deref.result.now (c.commit.ensures.stays.0) held (c.deref.ensures.value ∙ saved.0) in
     inr (
       subst (λ (h : Holding H). g.H.Handles.is_saveable h.state) held saved.1,
-      subst (λ (b : List ℕ). g.J.Keeps.leaves c.renew.new.self (with_batch blocks k.batch.items) (b ∷ [])) same
+      subst (λ (b : List ℕ). g.J.Keeps.leaves c.renew.new.self (with_batch blocks k.batch) (b ∷ [])) same
           (c.renew.ensures.any_moment clean _ (c.room_to_renew.ensures.kept _ (c.in_ok-commit.ensures.kept blocks kept))),
     )
 
@@ -25,7 +25,7 @@ returns-clause-any_moment g c clean blocks kept =
     let same = first_same g.H.Handles.saved k c.commit.new.self c.deref.result.now (c.commit.ensures.stays.0) held (c.deref.ensures.value ∙ saved.0) in
     inr (
       subst (λ (h : Holding H). g.H.Handles.is_saveable h.state) held saved.1,
-      subst (λ (b : List ℕ). g.J.Keeps.leaves c.renew.new.self (with_batch blocks k.batch.items) (b ∷ [])) same
+      subst (λ (b : List ℕ). g.J.Keeps.leaves c.renew.new.self (with_batch blocks k.batch) (b ∷ [])) same
           (c.renew.ensures.any_moment clean _ (c.room_to_renew.ensures.kept _ (c.in_ok-commit.ensures.kept blocks kept))),
     )
 
