@@ -8,6 +8,7 @@ use Rattle.http_server.specs.declared.response.Response.{Response}
 use Rattle.http_server.specs.Response.{IsResponse}
 use Rattle.dav_core.specs.Element.{ElementTree, child_elements, children_of, element, is_element, no_trees, text, with_children}
 use Rattle.dav_core.proofs.ElementLemmas.{tree_list_trees, trees_tree_list}
+use Rattle.dav_engine.specs.declared.reply.ReplyBody.TheVariants as reply
 use Rattle.dav_engine.specs.Reply.{Reply}
 use Rattle.dav_engine.specs.Taking.{taken_all}
 use Rattle.dav_server.specs.Head.{Request}

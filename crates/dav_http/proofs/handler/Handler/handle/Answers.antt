@@ -14,4 +14,4 @@ returns-in-Ok-clause-step c =
 pub returns-in-Ok-clause-left : goal.returns-in-Ok-clause-left
 returns-in-Ok-clause-left c leaves =
     let parts = c.in-Ok.ensures.step in
-    c.in-Ok.ensures.left (subst (λ n. Leaves c.args.head.now n) (ap (λ (r : Reply). r.status) (c.gathered.ensures parts.whole parts.handed) ∙ sym (same_status opened_tree grown_tree None _ parts.handed)) leaves)
+    c.in-Ok.ensures.left (subst (λ n. Leaves c.args.head.now n) (ap (λ (r : Reply). r.status) (c.gathered.ensures parts.whole parts.handed) ∙ sym (same_status opened_tree grown_tree None parts.whole _ _ parts.handed)) leaves)
