@@ -26,7 +26,7 @@ use Rattle.dav_http.proofs.RefusedLemmas.{may_be_refused, said_of}
 use Rattle.dav_limits.specs.Limits.{IsPast}
 use Rattle.dav_seen.specs.Ways.{IsWayReply}
 use Rattle.dav_live.proofs.AdmissionLemmas.{exchange_with}
-use Rattle.dav_live.specs.Answers.{AsksToSee, IsAnswer, IsBarred, IsForeignUnlock, IsKeptFrom, IsLook, IsNotRun, IsRefused, IsSentFor, MayUnlockIn, barred, caller_of, full, presented, refused, replied, seen, shown, told}
+use Rattle.dav_live.specs.Answers.{AsksToSee, IsAnswer, IsBarred, IsForeignUnlock, IsKeptFrom, IsListingSent, IsLook, IsNotRun, IsRefused, IsSentFor, MayUnlockIn, barred, caller_of, full, presented, refused, replied, seen, shown, told}
 
 -- a GET or HEAD leaves the server
 seeing_leaves : (head : List ℕ) (status : ℕ) → AsksToSee head → Leaves head status
@@ -56,7 +56,7 @@ finding_leaves head r is named status = reading r PropFind is (tt, named) refl
 
 module _ (old mid : Server) (q : RequestView) (start : Listed) (reply : Reply) (sent : Response) where
   -- what was handed on to a listing is shown
-  pub listing_answered : (r : Request) (place : Option Path) (available : ℕ) (l : Listed) → mid ≡ old → IsHead q.head r → r.method ≡ codes "PROPFIND"
+  listing_answered : (r : Request) (place : Option Path) (available : ℕ) (l : Listed) → mid ≡ old → IsHead q.head r → r.method ≡ codes "PROPFIND"
       → IsBegun (leaves_out r) (room_of old place available) q.body start → IsStepInParts opened taken start q.head q.body (caller_of q) old reply (Some l) mid
       → ShowsListing r reply l sent → IsAnswer old q sent mid
   listing_answered r place available l same is named begun parts shows =
@@ -66,8 +66,15 @@ module _ (old mid : Server) (q : RequestView) (start : Listed) (reply : Reply) (
       (shows (room_of old place available) q.body start parts.whole begun parts.handed))))
 
   -- and a whole reply is sent
-  pub whole_answered : IsStepInParts opened taken start q.head q.body (caller_of q) old reply None mid → IsSentFor mid q reply sent → IsAnswer old q sent mid
+  whole_answered : IsStepInParts opened taken start q.head q.body (caller_of q) old reply None mid → IsSentFor mid q reply sent → IsAnswer old q sent mid
   whole_answered parts is = replied parts.whole parts.step (subst (λ (r : Reply). IsSentFor mid q r sent) parts.handed is)
+
+  -- so a PROPFIND is answered
+  pub listed_answered : (r : Request) (place : Option Path) (available : ℕ) (after : Option Listed) → mid ≡ old → IsHead q.head r → r.method ≡ codes "PROPFIND"
+      → IsBegun (leaves_out r) (room_of old place available) q.body start → IsStepInParts opened taken start q.head q.body (caller_of q) old reply after mid
+      → IsListingSent mid q r reply after sent → IsAnswer old q sent mid
+  listed_answered r place available None same is named begun parts shows = whole_answered parts shows
+  listed_answered r place available (Some l) same is named begun parts shows = listing_answered r place available l same is named begun parts shows
 
 -- ---- looks
 

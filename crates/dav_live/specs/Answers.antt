@@ -15,6 +15,7 @@ use Rattle.dav_server.specs.Server.{Server}
 use Rattle.dav_http.specs.Ending.{IsUnlockHead}
 use Rattle.dav_http.specs.Holders.{NamesOwn}
 use Rattle.dav_http.specs.Kept.{IsKeptOf, Says}
+use Rattle.dav_http.specs.Listing.{Listed, ShowsListing}
 use Rattle.dav_http.specs.Presented.{IsShown}
 use Rattle.dav_http.specs.Refused.{Refuses}
 use Rattle.dav_http.specs.Room.{room_of}
@@ -45,6 +46,12 @@ pub data IsSentFor (s : Server) (q : RequestView) (r : Reply) (sent : Response) 
   headless : ((h : Request) → ¬ IsHead q.head h) → IsSentAs false r sent → IsSentFor s q r sent
   presented : (h : Request) → IsHead q.head h → (place : Option Path) (available : ℕ) → IsShown h q.body q.moment (room_of s place available) r sent
       → IsSentFor s q r sent
+
+-- What is sent to a PROPFIND of a reply, of which a listing took the multistatus in parts, if it did: what is shown of the whole reply; or
+-- the reply, which is whole (RFC 4918, sections 9.1 and 13).
+abbrev pub IsListingSent : Server → RequestView → Request → Reply → Option Listed → Response → Type 0
+IsListingSent s q h r (Some listing) sent = ShowsListing h r listing sent
+IsListingSent s q h r None sent = IsSentFor s q r sent
 
 -- The response to a request, and the server that is left: the reply of a step of the machine, as it is sent; or, where that is 405 to the
 -- GET or HEAD of a folder, a page of 200 for a person, and then the server is as it was.

@@ -584,6 +584,7 @@ impl Machine {
     ghost use Rattle.dav_http.specs.Presented.{leaves_out};
     ghost use Rattle.dav_http.specs.Room.{room_of};
     ghost use Rattle.dav_http.specs.Steps.{IsStepInParts};
+    ghost use Rattle.dav_live.specs.Answers.{IsListingSent};
 
     // What takes the responses to a PROPFIND with this head.
     fn listing_for(&self, head: &Head<'_>, request: &Request<'_>) -> Result<Listing, NoMemory>
@@ -622,6 +623,24 @@ impl Machine {
         }
     }
 
+    // Fills the response to a PROPFIND with this head with a reply, of which a listing took the multistatus, if it did.
+    fn show_listing(
+        &self,
+        head: &Head<'_>,
+        request: &Request<'_>,
+        reply: Reply,
+        taken: Option<Listing>,
+        response: &mut Response,
+    ) -> Result<(), HandleError>
+        requires { IsBlank response.old }
+        ensures { OnOk result (IsListingSent self.now request.now head.now reply taken response.new) }
+    {
+        match taken {
+            Some(listing) => Ok(present_listing(self.alloc, head, reply, listing, response)?),
+            None => self.tell_way(request, reply, response),
+        }
+    }
+
     // Fills the response to a PROPFIND with this head: what is told is written response by response, as it is made.
     fn list(
         &mut self,
@@ -639,10 +658,7 @@ impl Machine {
         self.see_told()?;
         let listing = self.listing_for(head, request)?;
         let (reply, taken) = self.hand_on(request, listing)?;
-        match taken {
-            Some(listing) => present_listing(self.alloc, head, reply, listing, response)?,
-            None => self.tell_way(request, reply, response)?,
-        }
+        self.show_listing(head, request, reply, taken, response)?;
         Ok(Effect::Left)
     }
 
