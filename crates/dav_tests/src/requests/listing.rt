@@ -1,8 +1,8 @@
 //! Listings that are shown response by response.
 use super::{parts, unescaped, value_in};
-use bytes::Buf;
+use bytes::{Buf, Bytes};
 use dav_core::element::{Element, XmlNode};
-use dav_engine::{Reply, ReplyBody};
+use dav_engine::{Caller, Gathered, Reply, ReplyBody, Takes};
 use dav_http::{Handler, Head, Listing, Store, present_listing};
 use http::StatusCode;
 use http_header::HeaderMap;
@@ -134,5 +134,70 @@ fn long_listings_are_shown_whole(rt: HostRuntime) -> Result<(), Fail> {
     wanted.push_str(END)?;
     let found = sent(alloc, &head, listing)?;
     assert!(rt; found == wanted);
+    Ok(())
+}
+
+// Requests to a server, one after another; behind each its status, and the addresses of the responses that are handed on, in order,
+// or `whole` where nothing is (RFC 4918, section 9.1).
+const HANDED: &str = "\
+PUT /a HTTP/1.1^^x -> 201 whole
+MKCOL /d HTTP/1.1^^ -> 201 whole
+PUT /d/b HTTP/1.1^^x -> 201 whole
+PROPFIND / HTTP/1.1^Depth: 1^^ -> 207 / /a /d/
+PROPFIND /d HTTP/1.1^Depth: 0^^ -> 207 /d/
+PROPFIND /d/ HTTP/1.1^Depth: 1^^ -> 207 /d/ /d/b
+PROPFIND /a HTTP/1.1^Depth: 1^^ -> 207 /a
+PROPFIND /none HTTP/1.1^Depth: 0^^ -> 404 whole
+PROPFIND / HTTP/1.1^Depth: infinity^^ -> 501 whole
+PROPFIND / HTTP/1.1^Depth: 0^^<a/> -> 400 whole
+DELETE /d HTTP/1.1^^ -> 204 whole
+PROPFIND / HTTP/1.1^Depth: 1^^ -> 207 / /a
+";
+
+// Adds the addresses of the responses of a multistatus, each behind a blank.
+fn add_addresses(alloc: Global, out: &mut String, multistatus: &Element) -> Result<(), Fail> {
+    for response in multistatus.child_elems() {
+        for part in response.child_elems() {
+            if let Some(address) = part.get_text(alloc)? {
+                out.push(' ')?;
+                out.push_str(&address)?;
+            }
+        }
+    }
+    Ok(())
+}
+
+// The status of the reply to a request, and what was handed on.
+fn handed(alloc: Global, server: &mut Handler, request: &str) -> Result<String, Fail> {
+    let bytes = unescaped(alloc, request)?;
+    let (head, body) = parts(&bytes);
+    let caller = Caller {
+        principal: None,
+        moment: 1,
+        token: None,
+    };
+    let body = Bytes::copy_from_slice(alloc, body)?;
+    let (reply, taken) = server.handle_to(alloc, head, body, &caller, Gathered::new())?;
+    let mut out = format!(in alloc; "{}", reply.status.as_u16())?;
+    match taken {
+        Some(taken) => {
+            let tree = taken.into_tree().ok_or("no multistatus")?;
+            add_addresses(alloc, &mut out, &tree)?;
+        }
+        None => out.push_str(" whole")?,
+    }
+    Ok(out)
+}
+
+#[test]
+fn listings_are_handed_on_by_response(rt: HostRuntime) -> Result<(), Fail> {
+    let alloc = rt.alloc();
+    let mut server = Handler::new(alloc, "")?;
+    for row in HANDED.lines() {
+        if let Some((request, wanted)) = row.split_once(" -> ") {
+            let found = handed(alloc, &mut server, request)?;
+            assert!(rt; found == wanted, "{row}\ngives: {found}");
+        }
+    }
     Ok(())
 }
