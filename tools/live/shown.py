@@ -24,6 +24,7 @@ TYPES = {
     "odt": "application/vnd.oasis.opendocument.text", "json": "application/json", "xml": "application/xml"}
 LEFT_OUT = (b"authorization", b"proxy-authorization", b"cookie", b"host", b"transfer-encoding")
 MAY_CHANGE = (b"PUT", b"PATCH", b"PROPPATCH", b"MKCOL", b"COPY", b"MOVE", b"DELETE", b"LOCK", b"UNLOCK")
+MOST_BODY = 256 << 20  # what a file may have where --body isn't told
 MOST_NAMES = 1000
 
 
@@ -67,10 +68,12 @@ def addressed(value):
 
 
 def refusal(request, server):
-    """The status with which a request isn't run, or None: 400 comes before 412."""
+    """The status with which a request isn't run, or None: 413 comes before 400, and 400 before 412."""
     head = read(request.head)
     if head is None:
         return None
+    if begins_past(head):
+        return 413
     if head.method == b"PROPFIND" and len(asked_names(request.body)) > MOST_NAMES:
         return 400
     if head.method not in MAY_CHANGE:
@@ -78,6 +81,19 @@ def refusal(request, server):
     if means_nothing(head):
         return 400
     return 412 if is_stale(head, server, request.moment) else None
+
+
+def begins_past(head):
+    """Whether a PUT or PATCH begins to write past what a file may have, by the place that its Content-Range or its X-Update-Range names."""
+    if head.method not in (b"PUT", b"PATCH"):
+        return False
+    try:
+        ranged = oracle.content_range_of(head)
+    except oracle.Refusal:
+        ranged = None
+    update = oracle.update_range_of(head)
+    firsts = ([ranged[0]] if ranged else []) + ([update[1]] if update and update[0] == "from" else [])
+    return any(first > MOST_BODY for first in firsts)
 
 
 def means_nothing(head):
