@@ -196,7 +196,7 @@ fn listings_are_handed_on_by_response(rt: HostRuntime) -> Result<(), Fail> {
     for row in HANDED.lines() {
         if let Some((request, wanted)) = row.split_once(" -> ") {
             let found = handed(alloc, &mut server, request)?;
-            assert!(rt; found == wanted, "{row}\ngives: {found}");
+            assert!(rt; found.as_str() == wanted, "{row}\ngives: {found}");
         }
     }
     Ok(())
