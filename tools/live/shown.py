@@ -96,6 +96,17 @@ def begins_past(head):
     return any(first > MOST_BODY for first in firsts)
 
 
+def would_swell(body):
+    """Whether as many names as a body may have, each with what stands between two quotation marks of it, come to more than 32 MiB."""
+    names = body.count(b"<") + body.count(b"=")
+    for place in range(len(body)):
+        if body[place] in b"'\"":
+            end = body.find(body[place:place + 1], place + 1)
+            if ((len(body) if end < 0 else end) - place - 1) * names > 32 << 20:
+                return True
+    return False
+
+
 def means_nothing(head):
     """Whether a condition is there and can't be read: an If (RFC 4918, 10.4), an If-Match or an If-None-Match (RFC 9110, 13.1)."""
     if head.has(b"if") and oracle.if_of(head) is None:
