@@ -43,6 +43,9 @@ const EACH: &str = "<D:response><D:href>/a%20long%20name%20of%20a%20file</D:href
 
 const END: &str = "</D:multistatus>";
 
+// How many pieces of a body are looked at.
+const MOST_PIECES: usize = 16;
+
 // What takes the responses to a request.
 fn listing_for(alloc: Global, head: &Head<'_>, body: &[u8]) -> Result<Listing, Fail> {
     let server = Handler::new(alloc, "")?;
@@ -81,10 +84,13 @@ fn sent(alloc: Global, head: &Head<'_>, listing: Listing) -> Result<String, Fail
         out.extend_from_slice(value)?;
     }
     out.push(b'|')?;
-    while response.body.remaining() > 0 {
+    for _ in 0..MOST_PIECES {
         let len = response.body.chunk().len();
         out.extend_from_slice(response.body.chunk())?;
         response.body.advance(len);
+    }
+    if response.body.has_remaining() {
+        return Err("more pieces than are looked at")?;
     }
     Ok(String::from_str(alloc, str::from_utf8(&out)?)?)
 }
