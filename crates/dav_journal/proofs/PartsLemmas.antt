@@ -1,5 +1,5 @@
 -- Parts that are written one behind another.
-use Rattle.std.proofs.Common.{◌≡◌, ℕ, suc, ◌+◌, ◌-◌, ◌<◌, ◌^◌, List, [], ◌∷◌, ◌++◌, length, slice_index, slice_range, take, subst, sym, refl, ◌∙◌, ap, inl, inr, arith, max, length-append}
+use Rattle.std.proofs.Common.{◌≡◌, ℕ, suc, ◌+◌, ◌-◌, ◌<◌, ◌^◌, List, [], ◌∷◌, ◌++◌, length, slice_index, slice_range, take, drop, take-append-drop, subst, sym, refl, ◌∙◌, ap, inl, inr, arith, max, length-append}
 use Rattle.std.proofs.lemmas.Bool.{cases_eq, cases_lt}
 use Rattle.std.proofs.lemmas.List.{get_or_append_left, get_or-append-add, append_assoc, take_all}
 use Rattle.std.proofs.lemmas.List.Sums.{fold-append}
@@ -163,3 +163,29 @@ gated_more bytes more (some, opens) = (
   omega (arith, some, length-append bytes more),
   get_or_append_left bytes more 0 0 (omega (arith, some)) ∙ opens,
 )
+
+-- zeros of the first bytes, and of those behind them
+pub zeros_split : (n : ℕ) (l : List ℕ) → zeros_in l ≡ zeros_in (take n l) + zeros_in (drop n l)
+zeros_split n l = ap zeros_in (sym (take-append-drop n l)) ∙ zeros_both (take n l) (drop n l)
+
+-- zeros of eight bytes, one by one
+pub zeros_each : (a b c d e f g h : ℕ) → zeros_in (a ∷ b ∷ c ∷ d ∷ e ∷ f ∷ g ∷ h ∷ [])
+    ≡ zeros_in (a ∷ []) + zeros_in (b ∷ []) + zeros_in (c ∷ []) + zeros_in (d ∷ []) + (zeros_in (e ∷ []) + zeros_in (f ∷ []) + zeros_in (g ∷ []) + zeros_in (h ∷ []))
+zeros_each a b c d e f g h = omega (arith,
+    zeros_both (a ∷ []) (b ∷ c ∷ d ∷ e ∷ f ∷ g ∷ h ∷ []), zeros_both (b ∷ []) (c ∷ d ∷ e ∷ f ∷ g ∷ h ∷ []), zeros_both (c ∷ []) (d ∷ e ∷ f ∷ g ∷ h ∷ []),
+    zeros_both (d ∷ []) (e ∷ f ∷ g ∷ h ∷ []), zeros_both (e ∷ []) (f ∷ g ∷ h ∷ []), zeros_both (f ∷ []) (g ∷ h ∷ []), zeros_both (g ∷ []) (h ∷ []))
+
+-- the same of a list of eight
+pub zeros_eight : (l : List ℕ) → length l ≡ 8 → zeros_in l
+    ≡ zeros_in (slice_index l 0 ∷ []) + zeros_in (slice_index l 1 ∷ []) + zeros_in (slice_index l 2 ∷ []) + zeros_in (slice_index l 3 ∷ [])
+    + (zeros_in (slice_index l 4 ∷ []) + zeros_in (slice_index l 5 ∷ []) + zeros_in (slice_index l 6 ∷ []) + zeros_in (slice_index l 7 ∷ []))
+zeros_eight [] len = absurd (omega (arith, len))
+zeros_eight (a ∷ []) len = absurd (omega (arith, len))
+zeros_eight (a ∷ b ∷ []) len = absurd (omega (arith, len))
+zeros_eight (a ∷ b ∷ c ∷ []) len = absurd (omega (arith, len))
+zeros_eight (a ∷ b ∷ c ∷ d ∷ []) len = absurd (omega (arith, len))
+zeros_eight (a ∷ b ∷ c ∷ d ∷ e ∷ []) len = absurd (omega (arith, len))
+zeros_eight (a ∷ b ∷ c ∷ d ∷ e ∷ f ∷ []) len = absurd (omega (arith, len))
+zeros_eight (a ∷ b ∷ c ∷ d ∷ e ∷ f ∷ g ∷ []) len = absurd (omega (arith, len))
+zeros_eight (a ∷ b ∷ c ∷ d ∷ e ∷ f ∷ g ∷ h ∷ []) len = zeros_each a b c d e f g h
+zeros_eight (a ∷ b ∷ c ∷ d ∷ e ∷ f ∷ g ∷ h ∷ i ∷ l) len = absurd (omega (arith, len))

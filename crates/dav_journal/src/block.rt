@@ -37,6 +37,24 @@ pub fn number(bytes: &[u8]) -> u64
     }
 }
 
+// 1 for a byte that is 0.
+fn one_if_zero(byte: u8) -> u64
+    ensures value { result ≡ zeros_in (byte ∷ []) }
+    ensures few { result ≤ 1 }
+{
+    (byte == 0) as u64
+}
+
+// How many of eight bytes are 0.
+fn zeros_of_eight(bytes: [u8; 8]) -> u64
+    ensures value { result ≡ zeros_in bytes }
+    ensures few { result ≤ 8 }
+{
+    let [a, b, c, d, e, f, g, h] = bytes;
+    let first = one_if_zero(a) + one_if_zero(b) + one_if_zero(c) + one_if_zero(d);
+    first + one_if_zero(e) + one_if_zero(f) + one_if_zero(g) + one_if_zero(h)
+}
+
 // How many of the bytes are 0.
 fn zeros_of(bytes: &[u8]) -> u64
     ensures value { result ≡ zeros_in bytes.now }
@@ -44,10 +62,12 @@ fn zeros_of(bytes: &[u8]) -> u64
 {
     let mut count = 0u64;
     let mut rest = bytes;
+    while let Some((eight, after)) = rest.split_first_chunk::<8>() {
+        count += zeros_of_eight(*eight);
+        rest = after;
+    }
     while let [first, after @ ..] = rest {
-        if *first == 0 {
-            count += 1;
-        }
+        count += one_if_zero(*first);
         rest = after;
     }
     count

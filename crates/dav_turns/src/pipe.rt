@@ -7,6 +7,7 @@ use crate::frames::has_report;
 use std::alloc::{AllocError, Global};
 use std::io::{ErrorKind, Read};
 use std::marker::Model;
+use std::mem;
 
 /// The most bytes that are read at once.
 const PIECE: usize = 65_536;
@@ -36,18 +37,22 @@ impl From<AllocError> for ReadError {
 /// What was read of a stream of reports and isn't heard yet, and room for the next read.
 #[derive(Drop)]
 pub struct Pipe {
-    unheard: Vec<u8>,
+    bytes: Vec<u8>,
+    /// So many of these, the first ones, were heard.
+    heard: usize,
+    /// Room for those that weren't, and for those of the next read.
+    spare: Vec<u8>,
     piece: Vec<u8>,
 }
 
 impl Model for Pipe {
-    ghost use Rattle.std.specs.Prelude.{◌<◌, List, ℕ, length};
+    ghost use Rattle.std.specs.Prelude.{◌<◌, ◌≤◌, List, ℕ, drop, length};
 
     ghost Value = { List ℕ };
 
-    ghost view = { λ p. p.unheard.items };
+    ghost view = { λ p. drop p.heard p.bytes.items };
 
-    ghost invariant = { λ p. 0 < length p.piece.items };
+    ghost invariant = { λ p. (0 < length p.piece.items) × (p.heard ≤ length p.bytes.items) };
 }
 
 // Reads once: how many bytes came. A read that a signal interrupts gives none.
@@ -80,7 +85,9 @@ impl Pipe {
         let mut piece = Vec::new(alloc);
         piece.resize(PIECE, 0)?;
         Ok(Pipe {
-            unheard: Vec::new(alloc),
+            bytes: Vec::new(alloc),
+            heard: 0,
+            spare: Vec::new(alloc),
             piece,
         })
     }
@@ -97,7 +104,7 @@ impl Pipe {
             × IsAtEnd (R.remaining reader.new)
             × Consumes (R.remaining reader.old) (R.remaining reader.new) [] }
     {
-        if has_report(&self.unheard) {
+        if has_report(self.unheard()) {
             return Ok(());
         }
         self.read_once(reader)
@@ -114,7 +121,11 @@ impl Pipe {
     {
         let count = read_piece(reader, &mut self.piece)?;
         let came = self.piece.get(..count).unwrap_or(&[]);
-        self.unheard.extend_from_slice(came)?;
+        self.spare.clear();
+        self.spare.extend_from_slice(&self.bytes[self.heard..])?;
+        self.spare.extend_from_slice(came)?;
+        mem::swap(&mut self.bytes, &mut self.spare);
+        self.heard = 0;
         Ok(())
     }
 
@@ -122,19 +133,18 @@ impl Pipe {
     pub fn unheard(&self) -> &[u8]
         ensures { result.now ≡ self.now }
     {
-        &self.unheard
+        &self.bytes[self.heard..]
     }
 
     /// Drops so many bytes, the first ones, which were heard.
     pub fn drop_heard(&mut self, count: usize)
         ensures { self.new ≡ drop count self.old }
     {
-        let len = self.unheard.len();
-        if count >= len {
-            self.unheard.clear();
-            return;
+        if count < self.bytes.len() - self.heard {
+            self.heard += count;
+        } else {
+            self.bytes.clear();
+            self.heard = 0;
         }
-        self.unheard.copy_within(count.., 0);
-        self.unheard.truncate(len - count);
     }
 }

@@ -8,7 +8,7 @@ ghost use Rattle.http_server.specs.declared.state.TheConstants.{MAX_HEADERS};
 
 use crate::answer::Asked;
 use crate::state::{Config, Refusal, most_of};
-use bytes::BytesMut;
+use bytes::{Bytes, BytesMut};
 use http1::framing::MethodKind;
 use http1::{BodySize, Event, Server};
 use httparse::spans::{HeaderSpan, RequestSpans, Span};
@@ -51,7 +51,7 @@ pub(crate) struct Intake {
     /// How many bytes that head states its body to have; 0 where it states none.
     pub(crate) stated: usize,
     /// What was read of its body.
-    pub(crate) body: BytesMut,
+    pub(crate) body: Vec<u8>,
 }
 
 impl Intake {
@@ -74,7 +74,7 @@ impl Intake {
             is_head: false,
             most: 0,
             stated: 0,
-            body: BytesMut::new(alloc),
+            body: Vec::new(alloc),
         }
     }
 
@@ -247,7 +247,7 @@ impl Intake {
             return Ok(Found::Nothing);
         }
         let head = self.head.freeze_to(self.head.len())?;
-        let body = mem::replace(&mut self.body, BytesMut::new(self.alloc)).freeze()?;
+        let body = Bytes::from_vec(mem::replace(&mut self.body, Vec::new(self.alloc)))?;
         self.is_within = false;
         self.stated = 0;
         Ok(Found::Request(Asked { head, body }, self.is_head))
