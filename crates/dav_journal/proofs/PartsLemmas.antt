@@ -171,9 +171,16 @@ zeros_split n l = ap zeros_in (sym (take-append-drop n l)) ∙ zeros_both (take 
 -- zeros of eight bytes, one by one
 pub zeros_each : (a b c d e f g h : ℕ) → zeros_in (a ∷ b ∷ c ∷ d ∷ e ∷ f ∷ g ∷ h ∷ [])
     ≡ zeros_in (a ∷ []) + zeros_in (b ∷ []) + zeros_in (c ∷ []) + zeros_in (d ∷ []) + (zeros_in (e ∷ []) + zeros_in (f ∷ []) + zeros_in (g ∷ []) + zeros_in (h ∷ []))
-zeros_each a b c d e f g h = omega (arith,
-    zeros_both (a ∷ []) (b ∷ c ∷ d ∷ e ∷ f ∷ g ∷ h ∷ []), zeros_both (b ∷ []) (c ∷ d ∷ e ∷ f ∷ g ∷ h ∷ []), zeros_both (c ∷ []) (d ∷ e ∷ f ∷ g ∷ h ∷ []),
-    zeros_both (d ∷ []) (e ∷ f ∷ g ∷ h ∷ []), zeros_both (e ∷ []) (f ∷ g ∷ h ∷ []), zeros_both (f ∷ []) (g ∷ h ∷ []), zeros_both (g ∷ []) (h ∷ []))
+zeros_each a b c d e f g h = omega (
+  arith,
+  zeros_both (a ∷ []) (b ∷ c ∷ d ∷ e ∷ f ∷ g ∷ h ∷ []),
+  zeros_both (b ∷ []) (c ∷ d ∷ e ∷ f ∷ g ∷ h ∷ []),
+  zeros_both (c ∷ []) (d ∷ e ∷ f ∷ g ∷ h ∷ []),
+  zeros_both (d ∷ []) (e ∷ f ∷ g ∷ h ∷ []),
+  zeros_both (e ∷ []) (f ∷ g ∷ h ∷ []),
+  zeros_both (f ∷ []) (g ∷ h ∷ []),
+  zeros_both (g ∷ []) (h ∷ []),
+)
 
 -- the same of a list of eight
 pub zeros_eight : (l : List ℕ) → length l ≡ 8 → zeros_in l
