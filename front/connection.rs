@@ -21,6 +21,11 @@ const LINGER: Duration = Duration::from_secs(2);
 const LONG: Duration = Duration::from_millis(2);
 const MANY: usize = PIECE;
 
+/// After a long one others have the core for at least as long, and until it gave this many orders for each that waited meanwhile: so of their requests
+/// one in a hundred waits for a long one. But it waits no more than so many times as long.
+const EACH: u64 = 100;
+const TIMES: u32 = 8;
+
 /// What the core may order to be done after the bytes were written: to say that they were; to read, where nothing of a request came, a
 /// part of a head, or a head whose body isn't whole; or to close.
 const TELL: u8 = 0;
@@ -112,9 +117,12 @@ pub struct Connection {
     /// Whether the core was told that the bytes of the order that comes are sent, though they aren't yet.
     is_told: bool,
     coming: Coming,
-    /// The reply to the request that came last: how many bytes it has, and how long the core was at it.
+    /// The reply to the request that came last: how many bytes it has, how long the core was at it, how many others it owed an order then, and how many
+    /// orders it had given when it was whole.
     replied: usize,
     took: Duration,
+    owed: u64,
+    answered: u64,
     /// How many reports asked the core for an order when this connection did.
     asked: u64,
     /// Since when it does that.
@@ -145,6 +153,8 @@ impl Connection {
             coming: Coming::new(READ),
             replied: 0,
             took: Duration::ZERO,
+            owed: 0,
+            answered: 0,
             asked: 0,
             since: Instant::now(),
             end: None,
@@ -199,9 +209,11 @@ impl Connection {
         self.hung_up |= hung_up;
     }
 
-    /// The core was so long at an order for it.
-    pub fn add_time(&mut self, took: Duration) {
-        self.took += took;
+    /// The core gave an order for it: how long it was at that, and who waited.
+    pub fn note_order(&mut self, core: &Core) {
+        self.took += core.took();
+        self.owed = self.owed.max(core.owed());
+        self.answered = core.answered();
     }
 
     /// An order begins. Whether the core is to be told at once that its bytes are sent.
@@ -356,10 +368,17 @@ impl Connection {
         }
     }
 
-    /// Whether the others have their time first: the last reply was a long one, it ended less long ago than the core was at it, and others ask.
+    /// Whether the others have their time first: the last reply was a long one, they haven't had that yet, and others ask.
     fn waits_for_others(&self, core: &Core) -> bool {
         let was_long = self.took >= LONG && self.replied >= MANY;
-        was_long && self.coming.what == READ && self.since.elapsed() < self.took && !core.is_free(self.asked)
+        was_long && self.coming.what == READ && !self.had_theirs(core) && !core.is_free(self.asked)
+    }
+
+    /// Whether the others had their time since the last reply.
+    fn had_theirs(&self, core: &Core) -> bool {
+        let passed = self.since.elapsed();
+        let answered = core.answered() - self.answered;
+        passed >= self.took && answered >= EACH * self.owed || passed >= TIMES * self.took
     }
 
     /// Reads once into the room of a report.
@@ -380,7 +399,7 @@ impl Connection {
             Ok(count) => {
                 self.readable = count == PIECE;
                 if self.coming.what == READ && self.coming.bytes == 0 {
-                    (self.replied, self.took) = (0, Duration::ZERO);
+                    (self.replied, self.took, self.owed) = (0, Duration::ZERO, 0);
                 }
                 self.asked = core.asked() + 1;
                 self.coming.add(count, self.since.elapsed());

@@ -127,6 +127,16 @@ impl Core {
         self.asked
     }
 
+    /// How many of these orders came.
+    pub fn answered(&self) -> u64 {
+        self.answered
+    }
+
+    /// How many of them the core still owes.
+    pub fn owed(&self) -> u64 {
+        self.asked - self.answered
+    }
+
     /// How long the core was at the order that came last.
     pub fn took(&self) -> Duration {
         self.took

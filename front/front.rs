@@ -281,7 +281,7 @@ impl Front {
             self.core.report(slot, GONE, &[]);
             self.begin();
         } else if let Some(connection) = self.slots.get(slot) {
-            connection.add_time(self.core.took());
+            connection.note_order(&self.core);
             connection.order(next, self.times);
             self.go_on(slot);
         }
