@@ -368,10 +368,14 @@ impl Connection {
         }
     }
 
+    /// Whether the last reply was a long one.
+    pub fn had_long(&self) -> bool {
+        self.took >= LONG && self.replied >= MANY
+    }
+
     /// Whether the others have their time first: the last reply was a long one, they haven't had that yet, and others ask.
     fn waits_for_others(&self, core: &Core) -> bool {
-        let was_long = self.took >= LONG && self.replied >= MANY;
-        was_long && self.coming.what == READ && !self.had_theirs(core) && !core.is_free(self.asked)
+        self.had_long() && self.coming.what == READ && !self.had_theirs(core) && !core.is_free(self.asked)
     }
 
     /// Whether the others had their time since the last reply.

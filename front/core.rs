@@ -67,6 +67,8 @@ pub struct Core {
     /// Since when the core is at the next order, or owes none; and how long it was at the one that came last.
     since: Instant,
     took: Duration,
+    /// How many reports had asked when a long reply was whole for which nobody waited; none where somebody did.
+    quiet: Option<u64>,
 }
 
 impl Core {
@@ -93,6 +95,7 @@ impl Core {
             answered: 0,
             since: Instant::now(),
             took: Duration::ZERO,
+            quiet: None,
         };
         Ok((core, child))
     }
@@ -142,9 +145,16 @@ impl Core {
         self.took
     }
 
-    /// Whether nobody else asked since so many reports did, or the core owes nothing for a moment.
+    /// A long reply is whole.
+    pub fn note_long(&mut self) {
+        self.quiet = (self.owed() == 0).then_some(self.asked);
+    }
+
+    /// Whether a client that had the core for long may ask again, which asked last when so many reports had: nobody else asked since; or the core owes
+    /// nothing, and did so for a moment, or nobody asked while it was at the last long reply and since.
     pub fn is_free(&self, asked: u64) -> bool {
-        self.asked == asked || self.asked == self.answered && self.since.elapsed() >= FREE
+        let is_quiet = self.quiet == Some(self.asked) || self.since.elapsed() >= FREE;
+        self.asked == asked || self.asked == self.answered && is_quiet
     }
 
     /// A report asks for an order.

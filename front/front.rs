@@ -241,6 +241,7 @@ impl Front {
         }
     }
 
+    /// Who waits longest goes first.
     fn go_on_with_later(&mut self) {
         for slot in std::mem::take(&mut self.later) {
             self.go_on(slot);
@@ -282,6 +283,9 @@ impl Front {
             self.begin();
         } else if let Some(connection) = self.slots.get(slot) {
             connection.note_order(&self.core);
+            if connection.had_long() {
+                self.core.note_long();
+            }
             connection.order(next, self.times);
             self.go_on(slot);
         }
