@@ -28,10 +28,13 @@ impl<D: Disk + Drop> Pair<D> {
 
     /// Whether another opening began anew since the files were opened: the first block is no more that of its generation, or was none, or one
     /// is in the other file. They have to be opened anew then.
+    #[tactic(auto, using(crate::proofs::LookLemmas::reading_pair_looks, crate::proofs::LookLemmas::unturned_looks))]
     pub fn is_anew(&mut self) -> Result<bool, JournalError>
         ensures looks { OnlyLooksPair D.Disk self.old self.new }
+        ensures read { (contents : List (List ℕ)) → IsReadingPair D.Disk self.old contents
+            → IsReadingPair D.Disk self.new contents }
         ensures same { IfOk result (λ is. is ≡ false → IsCleanPair D.Disk self.new
-            → IsUnturned D.Disk self.old) }
+            → IsUnturned D.Disk self.new) }
     {
         match self.see_unturned() {
             Ok(()) => Ok(false),
