@@ -26,8 +26,8 @@ impl<D: Disk + Drop> Pair<D> {
         self.counts.next_whole(alloc)
     }
 
-    /// Whether another opening began anew since the files were opened: the first block is no more that of its generation, or was none, or one
-    /// is in the other file. They have to be opened anew then.
+    /// Whether another opening began anew since the files were opened: the first block is no more that of its generation, or one is in the other
+    /// file; or none was read. They have to be opened anew then.
     #[tactic(auto, using(crate::proofs::LookLemmas::reading_pair_looks, crate::proofs::LookLemmas::unturned_looks))]
     pub fn is_anew(&mut self) -> Result<bool, JournalError>
         ensures looks { OnlyLooksPair D.Disk self.old self.new }
@@ -43,11 +43,14 @@ impl<D: Disk + Drop> Pair<D> {
         }
     }
 
-    // Sees that the first block is there, and of its generation, and that none is in the other file: `Passed` where it isn't so.
+    // Sees that a first block was read, is there, and is of its generation, and that none is in the other file: `Passed` where it isn't so.
     fn see_unturned(&mut self) -> Result<(), JournalError>
         ensures looks { OnlyLooksPair D.Disk self.old self.new }
         ensures same { OnOk result (IsCleanPair D.Disk self.new → IsUnturned D.Disk self.old) }
     {
+        if self.counts.len() == START {
+            return Err(JournalError::Passed);
+        }
         self.counts.see_begin(self.generation.to_be_bytes())?;
         self.spare.see_shut()
     }
