@@ -1,11 +1,13 @@
 -- A pair that only looks keeps what it kept.
-use Rattle.std.proofs.Common.{◌≡◌, ◌<◌, ◌^◌, ℕ, List, [], ap, inl, refl, sym, ◌∙◌, subst}
+use Rattle.std.proofs.Common.{◌≡◌, ◌<◌, ◌^◌, ℕ, List, [], ap, inl, refl, slice_index, sym, ◌∙◌, subst}
+use Rattle.std.specs.Int.{w64, to_be_bytes}
+use Rattle.sqlite_disk.specs.Disk.{Holds}
 use Rattle.sqlite_disk.specs.declared.Disk.{Ghosts}
 use Rattle.dav_journal.specs.declared.journal.Journal.{Journal}
 use Rattle.dav_journal.specs.declared.pair.Pair.{Pair}
-use Rattle.dav_journal.specs.Journal.{HasRead, IsKept, OnlyLooks, Stays}
-use Rattle.dav_journal.specs.Pair.{HasReadPair, IsKeptPair, IsSpare, OnlyLooksPair, OnlyReadsPair, PairLeaves, PairLeavesOnly, with_generation}
-use Rattle.dav_journal.proofs.JournalLemmas.{read_stays}
+use Rattle.dav_journal.specs.Journal.{HasRead, IsKept, IsReading, OnlyLooks, Stays}
+use Rattle.dav_journal.specs.Pair.{HasReadPair, IsKeptPair, IsReadingPair, IsSpare, IsUnturned, OnlyLooksPair, OnlyReadsPair, PairLeaves, PairLeavesOnly, with_generation}
+use Rattle.dav_journal.proofs.JournalLemmas.{nothing_stays, read_stays, reading_stays}
 use Rattle.dav_journal.proofs.PairLemmas.{kept_recovers, pair_alone}
 
 pub kept_looks : {D : Type 0} (g : Ghosts D) (old new : Journal D) (contents : List (List ℕ)) → OnlyLooks g old new → IsKept g old contents → IsKept g new contents
@@ -61,3 +63,22 @@ read_pair_stays g old new contents counts spare same was = record {
 -- what a crash leaves of a pair that was only read
 pub reads_only : {D : Type 0} (g : Ghosts D) (old new : Pair D) (contents : List (List ℕ)) → OnlyReadsPair g old new → PairLeavesOnly g old contents → PairLeavesOnly g new contents
 reads_only g old new contents r leaves c d may might = leaves c d (r.0.crash c may) (r.1.crash d might)
+
+-- what was read of a pair is read where it only looks
+pub reading_pair_looks : {D : Type 0} (g : Ghosts D) (old new : Pair D) (contents : List (List ℕ)) → OnlyLooksPair g old new → IsReadingPair g old contents → IsReadingPair g new contents
+reading_pair_looks g old new contents looks was = record {
+  small = subst (λ (n : ℕ). n < 2 ^ 64) (sym looks.generation) was.small;
+  reading = subst (λ (n : ℕ). IsReading g new.counts (with_generation n contents)) (sym looks.generation) (reading_stays g old.counts new.counts (with_generation old.generation contents) (looks_stay g old.counts new.counts looks.counts) was.reading);
+  spare = subst (λ (n : ℕ). IsSpare g new.spare n) (sym looks.generation) (spare_stays g old.spare new.spare old.generation (looks_stay g old.spare new.spare looks.spare) was.spare);
+}
+
+-- what nobody turned is as it was where it only looks
+pub unturned_looks : {D : Type 0} (g : Ghosts D) (old new : Pair D) → OnlyLooksPair g old new → IsUnturned g old → IsUnturned g new
+unturned_looks g old new looks was =
+    let counts = looks_stay g old.counts new.counts looks.counts in
+    let spare = looks_stay g old.spare new.spare looks.spare in
+    record {
+      gate = ap (λ (f : List ℕ). slice_index f 72) counts.reads.seen ∙ was.gate;
+      first = subst (λ (f : List ℕ). Holds f 121 (to_be_bytes w64 new.generation)) (sym counts.reads.seen) (subst (λ (n : ℕ). Holds (g.seen old.counts.disk) 121 (to_be_bytes w64 n)) (sym looks.generation) was.first);
+      other = nothing_stays g old.spare new.spare spare was.other;
+    }

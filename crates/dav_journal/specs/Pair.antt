@@ -181,6 +181,13 @@ IsOwnPair g p =
     IsOwn g p.counts (to_be_bytes w64 p.generation)
     × IsNoBlock p.spare.key (g.seen p.spare.disk) p.spare.end
 
+-- No other opening began anew with the files of a pair: in the one that counts the first block is there, and of the generation that was
+-- read; and no block is where the other one's would begin.
+pub record IsUnturned {D : Type 0} (g : Ghosts D) (p : Pair D) : Type 0 where
+  pub gate : slice_index (g.seen p.counts.disk) 72 ≡ 1
+  pub first : Holds (g.seen p.counts.disk) 121 (to_be_bytes w64 p.generation)
+  pub other : IsNoBlock p.spare.key (g.seen p.spare.disk) p.spare.end
+
 -- No other opening went on with the files of a pair since they were read: no mark says that the blocks
 -- of the file that counts reach further, and the first one is of the generation that was read; where
 -- there are none, no mark tells of one in the other file.

@@ -12,6 +12,7 @@ ghost use Rattle.dav_journal.specs.Write.{HasZeros, KeepsBelow};
 mod clearing;
 mod cutting;
 mod elder;
+mod following;
 mod keeping;
 mod leaving;
 mod looking;

@@ -9,6 +9,7 @@ ghost use Rattle.dav_journal.specs.Pair.{GoesOn, HasFirst, HasReadPair, IsCleanP
 
 mod adopting;
 mod elder;
+mod following;
 mod keeping;
 mod opening;
 mod reading;

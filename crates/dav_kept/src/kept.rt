@@ -7,6 +7,7 @@ ghost use Rattle.dav_kept.specs.Records.{IsRecord, record_bytes, token_count};
 ghost use Rattle.dav_kept.specs.Kept.{Begins, IsAnswerOf, IsBeat, RecordsFollow, IsRunOf, PlaysRecords, Snapshot, StaysAsKept, StaysInJournal, after, committed, first_block, first_day, held_by, is_new, journal_of, preface_of, snapshot_bytes, snapshot_of, answer_step, base_of, with_batch, with_count, with_first, with_opening, with_snapshot};
 ghost use Rattle.dav_kept.specs.declared.handler.Effect.TheVariants.{Changed};
 
+mod following;
 mod saving;
 mod starting;
 

@@ -4,6 +4,7 @@
 
 mod batch;
 mod error;
+mod following;
 mod former;
 mod handler;
 mod journal;
@@ -13,6 +14,7 @@ mod over_journal;
 mod record;
 
 pub use error::{HandleError, KeptError};
+pub use following::Follows;
 pub use former::adopt;
 pub use handler::{Asks, Effect, Handles};
 pub use journal::Keeps;

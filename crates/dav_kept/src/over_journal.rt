@@ -1,12 +1,13 @@
 //! A pair of journals of dav_journal keeps blocks.
 ghost use Rattle.dav_journal.specs.Journal.{IsSynced, blocks_end, file_of};
-ghost use Rattle.dav_journal.specs.Pair.{HasReadPair, IsCleanPair, IsKeptPair, IsOwnPair, IsReadingPair, PairLeaves, counting};
+ghost use Rattle.dav_journal.specs.Pair.{HasReadPair, IsCleanPair, IsKeptPair, IsOwnPair, IsReadingPair, IsUnturned, PairLeaves, counting};
 ghost use Rattle.sqlite_disk.specs.Disk.{Holds};
 ghost use Rattle.dav_journal.proofs.BlockLemmas.{rests_recovers};
 ghost use Rattle.dav_journal.proofs.PairLemmas.{pair_alone};
 ghost use Rattle.std.proofs.Common.{inl, inr};
 
 use crate::error::KeptError;
+use crate::following::Follows;
 use crate::journal::Keeps;
 use dav_journal::{JournalError, Pair};
 use sqlite_disk::Disk;
@@ -91,4 +92,22 @@ impl<D: Disk + Drop> Keeps for Pair<D> {
           (rests_recovers _ _ _ _ _ kept.kept.small (kept.kept.outcomes c may))
           (rests_recovers _ _ _ _ _ kept.spare.small (kept.spare.outcomes d might)))),
     ) };
+}
+
+impl<D: Disk + Drop> Follows for Pair<D> {
+    ghost is_unturned = { λ p. IsUnturned D.Disk p };
+
+    fn follow(&mut self, alloc: Global) -> Result<Option<Vec<u8>>, KeptError> {
+        Ok(Pair::follow(self, alloc)?)
+    }
+
+    fn is_anew(&mut self) -> Result<bool, KeptError> {
+        Ok(Pair::is_anew(self)?)
+    }
+
+    ghost read_is_so_far = { λ p blocks read. record {
+      small = read.small;
+      reading = read.read.reading;
+      spare = read.spare;
+    } };
 }

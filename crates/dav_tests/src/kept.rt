@@ -12,6 +12,7 @@ use std::marker::Model;
 use std::process::Abort;
 use std::test::Fail;
 
+mod following;
 mod records;
 mod room;
 

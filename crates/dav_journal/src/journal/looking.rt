@@ -48,9 +48,12 @@ impl<D: Disk + Drop> Journal<D> {
         }
         let mut gate = [0u8; 1];
         self.disk.read_at(START, &mut gate)?;
+        if gate[0] != OPEN {
+            return Err(JournalError::Passed);
+        }
         let mut found = [0u8; 8];
         self.disk.read_at(START + HEAD, &mut found)?;
-        if gate[0] != OPEN || found != begins {
+        if found != begins {
             return Err(JournalError::Passed);
         }
         Ok(())

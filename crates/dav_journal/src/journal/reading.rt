@@ -38,7 +38,7 @@ impl<D: Disk + Drop> Journal<D> {
     }
 
     // The content of the block after those that were read; `None` where none is there.
-    fn block_here(&mut self, alloc: Global) -> Result<Option<Vec<u8>>, JournalError>
+    pub(super) fn block_here(&mut self, alloc: Global) -> Result<Option<Vec<u8>>, JournalError>
         ensures sound { IfErr result IsNoDamage }
         ensures stays { Stays D.Disk self.old self.new }
         ensures fits { IfOk result (λ block. IfSome block (λ b.

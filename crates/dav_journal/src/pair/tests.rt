@@ -9,10 +9,11 @@ use std::test::Fail;
 
 mod adopting;
 mod elder;
+mod following;
 mod passing;
 
 /// What a pair has after each step of its life: the third and the fifth begin anew.
-const STEPS: [&str; 6] = ["", "one,", "one,two,", "three,", "three,four,", "five,"];
+pub const STEPS: [&str; 6] = ["", "one,", "one,two,", "three,", "three,four,", "five,"];
 
 /// Opens a pair, and reads what it has: each content, and a comma.
 pub fn read<D: Disk + Drop>(alloc: Global, pair: &mut Pair<D>) -> Result<Vec<u8>, JournalError> {

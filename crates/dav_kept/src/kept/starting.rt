@@ -101,7 +101,7 @@ impl<H: Handles + Drop, J: Keeps + Drop> Kept<H, J> {
     }
 
     // Plays the blocks of the journal that weren't read yet.
-    fn play_blocks(&mut self) -> Result<(), KeptError>
+    pub(super) fn play_blocks(&mut self) -> Result<(), KeptError>
         ensures played { OnOk result ((blocks : List (List ℕ))
             × PlaysRecords (answer_step H.answers) (concat blocks) (held_by self.old)
             (held_by self.new)
@@ -122,7 +122,7 @@ impl<H: Handles + Drop, J: Keeps + Drop> Kept<H, J> {
     }
 
     // Plays the records of the block at this place.
-    fn play_block(&mut self, block: &[u8], place: usize) -> Result<(), KeptError>
+    pub(super) fn play_block(&mut self, block: &[u8], place: usize) -> Result<(), KeptError>
         ensures played { OnOk result
             (PlaysRecords (answer_step H.answers) block.now (held_by self.old) (held_by self.new)) }
         ensures stays { StaysAsKept self.old self.new }

@@ -8,7 +8,7 @@ use std::test::Fail;
 
 // Gives the disks of a pair to another one, and takes those of that one: the first file is the one
 // that counts of an even generation.
-fn hand(from: &mut Pair<Memory>, to: &mut Pair<Memory>) {
+pub fn hand(from: &mut Pair<Memory>, to: &mut Pair<Memory>) {
     if from.generation % 2 == to.generation % 2 {
         from.counts.swap_disks(&mut to.counts);
         from.spare.swap_disks(&mut to.spare);
@@ -19,7 +19,7 @@ fn hand(from: &mut Pair<Memory>, to: &mut Pair<Memory>) {
 }
 
 // A new pair.
-fn new_pair(alloc: Global) -> Pair<Memory> {
+pub fn new_pair(alloc: Global) -> Pair<Memory> {
     Pair::new(Memory::new(alloc), Memory::new(alloc))
 }
 

@@ -1,0 +1,233 @@
+//! A server that follows another one: blocks come while it looks.
+ghost use Rattle.std.specs.Prelude.{⊤};
+
+use crate::kept::Heads;
+use bytes::Bytes;
+use dav_kept::{Follows, Keeps, Kept, KeptError, Request};
+use http::StatusCode;
+use std::alloc::{AllocError, Global};
+use std::test::Fail;
+
+/// What each look at the journal finds: a block with the records of these heads, with commas between
+/// them (`,` has none); `.`, that none is whole; `bad`, a block that has no records; or `anew`, a block
+/// of a journal that began anew. Then, for each time that the server follows, its heads after it.
+const FOLLOWED: &str = "
+. -> .
+. . -> . .
+a . -> a
+a . . b . -> a a ab
+a b . -> ab
+a,b . , . c . -> ab ab abc
+anew -> anew
+a anew -> anew
+a . anew -> a anew
+a . bad -> a Damaged
+";
+
+// The first block is read at a start; what comes then is scripted.
+#[derive(Drop)]
+struct Coming {
+    has_first: bool,
+    script: String,
+    looks: usize,
+    is_anew: bool,
+}
+
+impl Coming {
+    // The word of the next look.
+    fn word(&mut self) -> &str {
+        let looks = self.looks;
+        self.looks = looks.saturating_add(1);
+        self.script.as_str().split(' ').nth(looks).unwrap_or(".")
+    }
+}
+
+// A block with the records of these heads.
+fn block_of(alloc: Global, heads: &str) -> Result<Vec<u8>, AllocError> {
+    let mut block = Vec::new(alloc);
+    let body = Bytes::from_static(b"body");
+    for head in heads.split(',') {
+        if head.is_empty() {
+            continue;
+        }
+        let request = Request {
+            moment: 1,
+            principal: None,
+            token: None,
+            head: head.as_bytes(),
+            body: &body,
+        };
+        request.record(201).write(&mut block)?;
+    }
+    Ok(block)
+}
+
+impl Keeps for Coming {
+    ghost is_clean = { λ j. ⊤ };
+
+    ghost has_so_far = { λ j blocks. ⊤ };
+
+    ghost has_read = { λ j blocks. ⊤ };
+
+    ghost kept = { λ j blocks. ⊤ };
+
+    ghost is_synced = { λ j. ⊤ };
+
+    ghost is_own = { λ j. ⊤ };
+
+    ghost ends_at = { λ j. 0 };
+
+    ghost has_bytes = { λ j at bytes. ⊤ };
+
+    ghost leaves = { λ j one other. ⊤ };
+
+    fn next(&mut self, alloc: Global) -> Result<Option<Vec<u8>>, KeptError> {
+        if !self.has_first {
+            return Ok(None);
+        }
+        self.has_first = false;
+        Ok(Some(Vec::from_slice(alloc, b"\0\0\0\0\0\0\0\x01/")?))
+    }
+
+    fn place(&self) -> usize {
+        0
+    }
+
+    fn rest(&mut self) -> Result<usize, KeptError> {
+        Ok(0)
+    }
+
+    fn read(&mut self, _at: usize, _piece: &mut [u8]) -> Result<(), KeptError> {
+        Ok(())
+    }
+
+    fn begin(&mut self) -> Result<(), KeptError> {
+        Ok(())
+    }
+
+    fn room(&mut self, _size: usize) -> Result<bool, KeptError> {
+        Ok(true)
+    }
+
+    fn keep(&mut self, _alloc: Global, _block: &[u8]) -> Result<(), KeptError> {
+        Ok(())
+    }
+
+    fn keep_both(&mut self, _alloc: Global, _block: &[u8], _body: &[u8]) -> Result<(), KeptError> {
+        Ok(())
+    }
+
+    fn room_to_renew(&mut self, _size: usize) -> Result<bool, KeptError> {
+        Ok(false)
+    }
+
+    fn renew(&mut self, _alloc: Global, _block: &[u8]) -> Result<(), KeptError> {
+        Err(KeptError::Disk)
+    }
+
+    fn keep_mark(&mut self) -> Result<(), KeptError> {
+        Ok(())
+    }
+
+    ghost kept_is_left = { λ j blocks others kept. (kept, kept) };
+}
+
+impl Follows for Coming {
+    ghost is_unturned = { λ j. ⊤ };
+
+    fn follow(&mut self, alloc: Global) -> Result<Option<Vec<u8>>, KeptError> {
+        match self.word() {
+            "." => Ok(None),
+            "bad" => Ok(Some(Vec::from_slice(alloc, b"bad")?)),
+            "anew" => {
+                self.is_anew = true;
+                Ok(Some(Vec::from_slice(alloc, b"bad")?))
+            }
+            heads => Ok(Some(block_of(alloc, heads)?)),
+        }
+    }
+
+    fn is_anew(&mut self) -> Result<bool, KeptError> {
+        Ok(self.is_anew)
+    }
+
+    ghost read_is_so_far = { λ j blocks read. read };
+}
+
+// The heads of a server, `.` where it has none.
+fn heads_of<J: Keeps + Drop>(alloc: Global, kept: &Kept<Heads, J>) -> Result<String, Fail> {
+    let heads = String::from_utf8(kept.handler().heads.clone()?)?;
+    if heads.is_empty() {
+        return Ok(String::from_str(alloc, ".")?);
+    }
+    Ok(heads)
+}
+
+// What a server is each time that it followed, so many times at most.
+fn followed(alloc: Global, script: &str, times: usize) -> Result<String, Fail> {
+    let heads = Heads {
+        heads: Vec::new(alloc),
+        made: StatusCode::CREATED,
+    };
+    let coming = Coming {
+        has_first: true,
+        script: String::from_str(alloc, script)?,
+        looks: 0,
+        is_anew: false,
+    };
+    let mut kept = Kept::open(alloc, heads, coming, b"/")?;
+    let mut found = String::new(alloc);
+    for time in 0..times {
+        if time > 0 {
+            found.push_str(" ")?;
+        }
+        match kept.follow() {
+            Ok(true) => found.push_str(heads_of(alloc, &kept)?.as_str())?,
+            Ok(false) => found.push_str("anew")?,
+            Err(error) => found.push_str(format!(in alloc; "{error}")?.as_str())?,
+        }
+    }
+    Ok(found)
+}
+
+/// What comes is played, each block once, and no part of one.
+#[test]
+fn what_comes_is_played(rt: HostRuntime) -> Result<(), Fail> {
+    let alloc = rt.alloc();
+    for row in FOLLOWED.trim().lines() {
+        let Some((script, expected)) = row.split_once(" -> ") else {
+            return Err(Fail::new("a row without an arrow"));
+        };
+        let times = expected.split(' ').count();
+        assert_eq!(rt; followed(alloc, script, times)?.as_str(), expected, "{row}");
+    }
+    Ok(())
+}
+
+/// A server that followed goes on over another journal, whose blocks from there on it plays.
+#[test]
+fn it_goes_on_over_another_journal(rt: HostRuntime) -> Result<(), Fail> {
+    let alloc = rt.alloc();
+    let heads = Heads {
+        heads: Vec::new(alloc),
+        made: StatusCode::CREATED,
+    };
+    let coming = Coming {
+        has_first: true,
+        script: String::from_str(alloc, "a *b .")?,
+        looks: 0,
+        is_anew: false,
+    };
+    let mut kept = Kept::open(alloc, heads, coming, b"/")?;
+    assert!(rt; kept.follow()?);
+    let rest = Coming {
+        has_first: false,
+        script: String::new(alloc),
+        looks: 0,
+        is_anew: false,
+    };
+    let kept = kept.go_on_over(rest)?;
+    assert_eq!(rt; heads_of(alloc, &kept)?.as_str(), "a*b");
+    assert_eq!(rt; (kept.tokens(), kept.latest(), kept.is_new()), (0, 1, false));
+    Ok(())
+}
