@@ -81,10 +81,12 @@ pub fn write_once<D: Disk>(disk: &mut D, at: usize, bytes: &Parts<'_>) -> io::Re
     ensures clean { IsTrue (D.Disk.is_clean disk.new) → IsTrue (D.Disk.is_clean disk.old) }
     ensures written { OnOk result (Holds (D.Disk.seen disk.new) at (bytes_in bytes.now)) }
     ensures synced { OnOk result (Only (D.Disk.seen disk.new) (D.Disk.may_leave disk.new)) }
-    ensures others { Torn at (length (bytes_in bytes.now)) (D.Disk.seen disk.old) (D.Disk.seen disk.new) }
+    ensures others { Torn at (length (bytes_in bytes.now)) (D.Disk.seen disk.old)
+        (D.Disk.seen disk.new) }
     ensures crash { IsTrue (D.Disk.is_mixing disk.old)
         → (key upto : ℕ) (contents : List (List ℕ)) (content : List ℕ) → key < 2 ^ 64
-        → bytes_in bytes.now ≡ block_bytes key at content ++ 0 ∷ [] → at + length (bytes_in bytes.now) ≤ upto
+        → bytes_in bytes.now ≡ block_bytes key at content ++ 0 ∷ []
+        → at + length (bytes_in bytes.now) ≤ upto
         → ((c : List ℕ) → D.Disk.may_leave disk.old c → Rests key contents at upto c)
         → LeavesAtMost D.Disk disk.new contents content }
 {

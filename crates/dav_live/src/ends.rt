@@ -35,7 +35,8 @@ pub trait Ends: Handles {
 
     // By these rules, if there are any, and by these limits this request that came, and would be run as that one, isn't run in this
     // state, and is answered with this status.
-    ghost refuses: { Option RulesValue → List LimitValue → Self → Request → RequestView → ℕ → Type 0 };
+    ghost refuses: { Option RulesValue → List LimitValue → Self → Request → RequestView → ℕ
+        → Type 0 };
 
     /// With which status a request is answered, where it isn't to be run, by rules, where there are any, and by limits; `None` where it
     /// is. It came with this head, of which it has what is kept.

@@ -633,7 +633,8 @@ impl Machine {
         response: &mut Response,
     ) -> Result<(), HandleError>
         requires { IsBlank response.old }
-        ensures { OnOk result (IsListingSent self.now request.now head.now reply taken response.new) }
+        ensures { OnOk result
+            (IsListingSent self.now request.now head.now reply taken response.new) }
     {
         match taken {
             Some(listing) => Ok(present_listing(self.alloc, head, reply, listing, response)?),

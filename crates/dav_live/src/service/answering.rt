@@ -63,8 +63,8 @@ impl<H: Ends + Drop, J: Keeps + Drop> Service<H, J> {
     ) -> Result<(), Stop>
         requires head { IsHead asked.now.head head.now }
         requires blank { IsBlank response.old }
-        ensures responds { OnOk result (IsResponseTo H.answers H.refuses H.looks (admission_of self.old)
-            (held_of self.old) asked.now response.new (held_of self.new)) }
+        ensures responds { OnOk result (IsResponseTo H.answers H.refuses H.looks
+            (admission_of self.old) (held_of self.old) asked.now response.new (held_of self.new)) }
         ensures same { OnOk result (admission_of self.new ≡ admission_of self.old) }
         ensures logins { OnOk result (logins_of self.new ≡ logins_of self.old) }
         ensures goes_on { OnOk result
@@ -105,8 +105,8 @@ impl<H: Ends + Drop, J: Keeps + Drop> Service<H, J> {
             (request_in (admission_of self.old) admitted.now body.now) status
             × IsResponse status (challenge_fields status) [] response.new
             × (held_of self.new ≡ held_of self.old))
-            ⊎ (((status : ℕ) → ¬ H.refuses (admission_of self.old).rules (admission_of self.old).limits
-            (held_of self.old).state head.now
+            ⊎ (((status : ℕ) → ¬ H.refuses (admission_of self.old).rules
+            (admission_of self.old).limits (held_of self.old).state head.now
             (request_in (admission_of self.old) admitted.now body.now) status)
             × IsRunWhole H.answers (admission_of self.old) (held_of self.old)
             (request_in (admission_of self.old) admitted.now body.now) response.new

@@ -69,9 +69,17 @@ fn what_is_kept_is_followed(rt: HostRuntime) -> Result<(), Fail> {
             assert_eq!(rt; since.is_some(), is_one, "{steps} steps, {more} steps");
             if let Some(since) = since {
                 all.extend_from_slice(&since)?;
-                assert_eq!(rt; all.as_slice(), STEPS[more].as_bytes(), "{steps} steps, {more} steps");
+                assert_eq!(rt;
+                    all.as_slice(),
+                    STEPS[more].as_bytes(),
+                    "{steps} steps, {more} steps"
+                );
             }
-            assert_eq!(rt; anew.as_slice(), STEPS[more].as_bytes(), "{steps} steps, {more} steps");
+            assert_eq!(rt;
+                anew.as_slice(),
+                STEPS[more].as_bytes(),
+                "{steps} steps, {more} steps"
+            );
         }
     }
     Ok(())
