@@ -4,6 +4,9 @@ ghost use Rattle.sqlite_disk.specs.Disk.{CountsFault, CountsFaultIf, Cut, Follow
 ghost use Rattle.sqlite_disk.specs.Refusal.{finds_no_room};
 ghost use Rattle.sqlite_disk.specs.Tally.{CountsRefusal};
 
+#[cfg(test)]
+mod tests;
+
 use crate::claims::Claims;
 use sqlite_disk::{Disk, Tally};
 use std::io;
