@@ -15,7 +15,7 @@ pub fn see_begun(
     rt: &HostRuntime,
     alloc: Global,
     folder: &str,
-    live: &Live<Owned<'_>>,
+    live: &Live<Owned>,
 ) -> Result<(), Refusal> {
     if !live.is_new() {
         return Ok(());

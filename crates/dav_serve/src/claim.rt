@@ -4,9 +4,9 @@ ghost use Rattle.std.specs.Prelude.{⊤};
 use crate::refusal::Refusal;
 use dav_claim::{Claimed, Claims};
 use sqlite_std_file::File;
-use std::alloc::{AllocError, Global};
+use std::alloc::Global;
 use std::fs::OpenOptions;
-use std::os::unix::fs::FileExt;
+use std::os::unix::fs::{FileExt, MetadataExt};
 use std::random::RandomSource;
 use std::time::Duration;
 use std::{fs, io, thread};
@@ -21,103 +21,92 @@ const NOBODY: [u8; SIZE] = [0; SIZE];
 const LAST_CALL: u64 = 1;
 
 /// A file of the state, which is written as long as the claim is there.
-pub type Owned<'r> = Claimed<File, Claim<'r>>;
+pub type Owned = Claimed<File, Claim>;
 
-/// A claim of a state.
+/// A claim of a state, and the file that it was written to. That stays open: a read of it is asked of the file system as one of the state
+/// is, and takes a third of the time of opening it anew on a volume of several hosts.
 #[derive(Drop)]
-pub struct Claim<'r> {
-    rt: &'r HostRuntime,
-    path: String,
+pub struct Claim {
+    file: fs::File,
     bytes: [u8; SIZE],
 }
 
-impl<'r> Claim<'r> {
+impl Claim {
     /// Claims the state of a folder, whose lock this server has: from then on no other one tells a write as kept. Where it stood by
     /// for a server that may still be there, it waits for the last call of that one. `Claim` where the claim can't be written.
     pub fn take(
-        rt: &'r HostRuntime,
+        rt: &HostRuntime,
         alloc: Global,
         folder: &str,
         stood_by: bool,
-    ) -> Result<Claim<'r>, Refusal> {
-        let Ok(claim) = Claim::draw(rt, alloc, folder) else {
+    ) -> Result<Claim, Refusal> {
+        let path = format!(in alloc; "{folder}/state.claim")?;
+        let Ok((claim, found)) = Claim::write(rt, path.as_str()) else {
             return Err(Refusal::Claim(String::from_str(alloc, folder)?));
         };
-        let may_be_there = match bytes_in(rt, claim.path.as_str()) {
-            Ok(found) => found != NOBODY,
-            Err(_) => false,
-        };
-        let Ok(()) = write(rt, claim.path.as_str(), &claim.bytes) else {
-            return Err(Refusal::Claim(String::from_str(alloc, folder)?));
-        };
-        if stood_by && may_be_there {
+        if stood_by && found != NOBODY {
             thread::sleep(rt, Duration::from_secs(LAST_CALL));
         }
         Ok(claim)
     }
 
-    // A claim that nobody else has.
-    fn draw(rt: &'r HostRuntime, alloc: Global, folder: &str) -> io::Result<Claim<'r>> {
-        let mut bytes = [0u8; SIZE];
-        let (number, turned) = bytes.split_at_mut(SIZE / 2);
-        rt.fill_bytes(number)?;
-        for (bit, other) in number.iter().zip(turned.iter_mut()) {
-            *other = !*bit;
-        }
-        let path = format!(in alloc; "{folder}/state.claim")?;
-        Ok(Claim { rt, path, bytes })
+    // Draws a claim and writes it in place, so that it needs no room on a full disk. Half of one, as a crash may leave it, is nobody's. What
+    // was there before, zeros where nothing was.
+    fn write(rt: &HostRuntime, path: &str) -> io::Result<(Claim, [u8; SIZE])> {
+        let bytes = drawn(rt)?;
+        let file = OpenOptions::new()
+            .read(true)
+            .write(true)
+            .create(true)
+            .open(rt, path)?;
+        let mut found = NOBODY;
+        let _shorter = file.read_at(&mut found, 0)?;
+        file.write_all_at(&bytes, 0)?;
+        file.sync_all()?;
+        Ok((Claim { file, bytes }, found))
     }
 
     /// The same claim once more.
-    pub fn again(&self) -> Result<Claim<'r>, AllocError> {
-        let path = self.path.clone()?;
+    pub fn again(&self) -> io::Result<Claim> {
         Ok(Claim {
-            rt: self.rt,
-            path,
+            file: self.file.try_clone()?,
             bytes: self.bytes,
         })
     }
 
-    // Whether it is the one that is there. The file is opened anew each time, since a file system of many hosts may only then ask what
-    // another one wrote.
-    fn is_there(&self) -> bool {
-        match bytes_in(self.rt, self.path.as_str()) {
-            Ok(found) => found == self.bytes,
-            Err(_) => false,
-        }
+    // Whether it is the one that is there; not where its file was removed.
+    fn is_there(&self) -> io::Result<bool> {
+        let mut found = NOBODY;
+        self.file.read_exact_at(&mut found, 0)?;
+        Ok(found == self.bytes && self.file.metadata()?.nlink() > 0)
     }
 
-    /// Lets go of the state, so that nobody waits for this server: it has ended, and told all that it will.
-    pub fn end(self) {
-        if self.is_there() {
-            // Where that fails the next one waits a second.
-            let _ = write(self.rt, self.path.as_str(), &NOBODY);
+    /// Lets go of the state, so that nobody waits for this server: it has ended, and told all that it will. Where that fails, the next
+    /// one waits a second.
+    pub fn end(self) -> io::Result<()> {
+        if self.is_there()? {
+            self.file.write_all_at(&NOBODY, 0)?;
+            self.file.sync_all()?;
         }
+        Ok(())
     }
 }
 
-impl<'r, D> Claims<D> for Claim<'r> {
+impl<D> Claims<D> for Claim {
     ghost found_own = { λ claim disk. ⊤ };
 
     fn is_own(&mut self, _disk: &D) -> bool {
-        self.is_there()
+        matches!(self.is_there(), Ok(true))
     }
 }
 
-// The bytes of the claim at this path.
-fn bytes_in(rt: &HostRuntime, path: &str) -> io::Result<[u8; SIZE]> {
-    let mut bytes = [0u8; SIZE];
-    fs::File::open(rt, path)?.read_exact_at(&mut bytes, 0)?;
+// The bytes of a claim that nobody else has.
+fn drawn(rt: &HostRuntime) -> io::Result<[u8; SIZE]> {
+    let mut bytes = NOBODY;
+    let (number, turned) = bytes.split_at_mut(SIZE / 2);
+    rt.fill_bytes(number)?;
+    for (bit, other) in number.iter().zip(turned.iter_mut()) {
+        *other = !*bit;
+    }
     Ok(bytes)
-}
-
-// Writes the bytes of a claim in place, so that it needs no room on a full disk, and syncs them. Half of it, as a crash may leave it, is
-// nobody's.
-fn write(rt: &HostRuntime, path: &str, bytes: &[u8; SIZE]) -> io::Result<()> {
-    let file = OpenOptions::new()
-        .write(true)
-        .create(true)
-        .open(rt, path)?;
-    file.write_all_at(bytes, 0)?;
-    file.sync_all()
 }

@@ -72,11 +72,11 @@ fn lists_in(rt: &HostRuntime, alloc: Global, folder: &str) -> Result<(Lists, boo
 }
 
 // The server of a folder.
-fn open_live<'r>(
-    rt: &'r HostRuntime,
+fn open_live(
+    rt: &HostRuntime,
     alloc: Global,
     options: Options,
-) -> Result<(Live<Owned<'r>>, Claim<'r>), Refusal> {
+) -> Result<(Live<Owned>, Claim), Refusal> {
     let Options {
         folder,
         settings,
@@ -89,8 +89,10 @@ fn open_live<'r>(
         Err(error) => return Err(unopened(folder, waits, error)),
     };
     let claim = Claim::take(rt, alloc, folder.as_str(), waits)?;
-    let one = Claimed::new(db, claim.again()?);
-    let other = Claimed::new(log, claim.again()?);
+    let (Ok(one), Ok(other)) = (claim.again(), claim.again()) else {
+        return Err(Refusal::Claim(folder));
+    };
+    let (one, other) = (Claimed::new(db, one), Claimed::new(log, other));
     let prefix = settings.prefix.clone()?;
     let mut live = match Live::open(alloc, one, other, lists, settings) {
         Ok(live) => live,
@@ -110,10 +112,7 @@ fn open_live<'r>(
 }
 
 // Begins with the arguments of the program.
-fn begin<'r>(
-    rt: &'r HostRuntime,
-    alloc: Global,
-) -> Result<(Live<Owned<'r>>, Claim<'r>), Refusal> {
+fn begin(rt: &HostRuntime, alloc: Global) -> Result<(Live<Owned>, Claim), Refusal> {
     let Ok(mut arguments) = env::args(rt) else {
         return Err(Refusal::Memory);
     };
@@ -129,7 +128,8 @@ fn main(rt: HostRuntime) -> ExitCode {
             let mut watcher = Watcher::new(&rt);
             let fault = live.run(&mut rt.reader(), &mut io::writer(&rt), &mut watcher);
             if fault == Fault::Ended {
-                claim.end();
+                // Where that fails, a standby waits a second.
+                let _ = claim.end();
             }
             ExitCode::from(status_after(fault))
         }

@@ -17,7 +17,7 @@ pub fn keep_rest(
     rt: &HostRuntime,
     alloc: Global,
     folder: &str,
-    live: &mut Live<Owned<'_>>,
+    live: &mut Live<Owned>,
 ) -> Result<(), Refusal> {
     let (place, count) = match live.rest() {
         Ok(rest) => rest,
@@ -58,7 +58,7 @@ fn free_path(rt: &HostRuntime, alloc: Global, folder: &str) -> io::Result<String
 fn copy(
     rt: &HostRuntime,
     path: &str,
-    live: &mut Live<Owned<'_>>,
+    live: &mut Live<Owned>,
     place: usize,
     count: usize,
 ) -> io::Result<()> {
