@@ -41,18 +41,18 @@ impl Claim {
         stood_by: bool,
     ) -> Result<Claim, Refusal> {
         let path = format!(in alloc; "{folder}/state.claim")?;
-        let Ok((claim, found)) = Claim::write(rt, path.as_str()) else {
+        let Ok((claim, had_another)) = Claim::write(rt, path.as_str()) else {
             return Err(Refusal::Claim(String::from_str(alloc, folder)?));
         };
-        if stood_by && found != NOBODY {
+        if stood_by && had_another {
             thread::sleep(rt, Duration::from_secs(LAST_CALL));
         }
         Ok(claim)
     }
 
-    // Draws a claim and writes it in place, so that it needs no room on a full disk. Half of one, as a crash may leave it, is nobody's. What
-    // was there before, zeros where nothing was.
-    fn write(rt: &HostRuntime, path: &str) -> io::Result<(Claim, [u8; SIZE])> {
+    // Draws a claim and writes it in place, so that it needs no room on a full disk. Half of one, as a crash may leave it, is nobody's. Whether
+    // somebody's was there before.
+    fn write(rt: &HostRuntime, path: &str) -> io::Result<(Claim, bool)> {
         let bytes = drawn(rt)?;
         let file = OpenOptions::new()
             .read(true)
@@ -63,7 +63,7 @@ impl Claim {
         let _shorter = file.read_at(&mut found, 0)?;
         file.write_all_at(&bytes, 0)?;
         file.sync_all()?;
-        Ok((Claim { file, bytes }, found))
+        Ok((Claim { file, bytes }, found != NOBODY))
     }
 
     /// The same claim once more.
