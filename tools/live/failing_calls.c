@@ -4,6 +4,7 @@
        torn    half of a write is done, and then it fails (EIO)
        lost    a sync fails (EIO), and the file is again what it was at its last sync
    With FAIL_ONCE=FILE each call fails as soon as that file is there, and with FREE_LOCKS=1 each lock of a range of bytes is had at once.
+   With HALT_CUT=FILE a change of a length waits as long as that file is there, and makes FILE.halted meanwhile; with HALT_WRITE=FILE a write.
    A call that can't fail so is made as it is. At its end the program writes the count of calls to the file FAIL_TOLD.
    Built by tools/live/refused: cc -shared -fPIC -o failing_calls.so failing_calls.c -ldl; LD_PRELOAD=./failing_calls.so FAIL_CALL=7 .. */
 #define _GNU_SOURCE
@@ -104,7 +105,18 @@ ssize_t pread(int file, void *bytes, size_t length, off_t at) {
     return real_pread(file, bytes, length, at);
 }
 
+/* Waits where it is told to. */
+static void halt(const char *name) {
+    const char *path = getenv(name);
+    char told[4096];
+    if (!path || access(path, F_OK)) return;
+    snprintf(told, sizeof told, "%s.halted", path);
+    close(real_open(told, O_WRONLY | O_CREAT, 0600));
+    while (!access(path, F_OK)) usleep(10000);
+}
+
 ssize_t pwrite(int file, const void *bytes, size_t length, off_t at) {
+    if (is_of_state(file)) halt("HALT_WRITE");
     if (!is_of_state(file) || !fails()) return real_pwrite(file, bytes, length, at);
     if (how == 's' && length > 1) return real_pwrite(file, bytes, length / 2, at);
     if (how == 't') {
@@ -131,6 +143,7 @@ int fdatasync(int file) { return sync_by(real_fdatasync, file); }
 int fsync(int file) { return sync_by(real_fsync, file); }
 
 int ftruncate(int file, off_t length) {
+    if (is_of_state(file)) halt("HALT_CUT");
     if (is_of_state(file) && fails() && how >= '0' && how <= '9') return fault();
     return real_ftruncate(file, length);
 }

@@ -17,7 +17,7 @@ status_after Memory = 3
 status_after Disk = 5
 
 -- the exit status of a program that can't begin: 3 where memory ran out, 4 where the state is damaged, gone or of another version, 5 where the
--- disk failed or what is dropped can't be kept, 6 where the state is in use, and 1 for arguments, users, rules of access, prefixes and a state
+-- disk failed, or what is dropped can't be kept, or the state not be claimed, 6 where the state is in use, and 1 for arguments, users, rules of access, prefixes and a state
 -- that can't be opened
 abbrev pub status_refused : Refusal → ℕ
 status_refused refusal.Memory = 3
@@ -25,6 +25,7 @@ status_refused (refusal.Foreign folder) = 4
 status_refused (refusal.Gone folder) = 4
 status_refused (refusal.Damaged folder place) = 4
 status_refused (refusal.Cut folder) = 5
+status_refused (refusal.Claim folder) = 5
 status_refused (refusal.Disk folder) = 5
 status_refused (refusal.InUse folder) = 6
 status_refused refusal.Awaited = 6

@@ -1,7 +1,7 @@
 //! That a state was begun is noted beside it: one of which no block is left isn't taken for a new one.
+use crate::claim::Owned;
 use crate::refusal::Refusal;
 use dav_live::Live;
-use sqlite_std_file::File;
 use std::alloc::Global;
 use std::{fs, io};
 
@@ -15,7 +15,7 @@ pub fn see_begun(
     rt: &HostRuntime,
     alloc: Global,
     folder: &str,
-    live: &Live<File>,
+    live: &Live<Owned>,
 ) -> Result<(), Refusal> {
     if !live.is_new() {
         return Ok(());

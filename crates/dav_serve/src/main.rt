@@ -2,7 +2,8 @@
 //! its state in FOLDER/state and FOLDER/state-wal, of which one counts.
 //!
 //! That a state was begun is told by FOLDER/state.begun: where that is there, and no block of the state, the state is gone. That there
-//! were rules of access is told by FOLDER/state.ruled: where that is there, and no FOLDER/access, a start is refused.
+//! were rules of access is told by FOLDER/state.ruled: where that is there, and no FOLDER/access, a start is refused. Whose the state is tells
+//! FOLDER/state.claim: a server that doesn't find its own claim there writes nothing, and tells nothing as kept.
 //!
 //! Exit status: 0 the input ended; 1 the arguments, the folder, the users or the rules of access are wrong; 2 a report wasn't understood, or a
 //! pipe failed; 3 memory ran out; 4 the state is damaged or of another version, and nothing was changed; 5 the disk is full or failed; 6
@@ -13,6 +14,7 @@ ghost use Rattle.std.specs.Prelude.{◌≡◌};
 ghost use Rattle.dav_serve.specs.Status.{status_after};
 
 mod begun;
+mod claim;
 mod found;
 mod options;
 mod refusal;
@@ -21,6 +23,8 @@ mod ruled;
 mod watcher;
 
 use begun::{note_begun, see_begun};
+use claim::{Claim, Owned};
+use dav_claim::Claimed;
 use dav_live::{Fault, Lists, ListsError, Live};
 use found::text_in;
 use options::Options;
@@ -28,7 +32,7 @@ use refusal::{Refusal, refused, status_of, unopened};
 use rest::keep_rest;
 use ruled::{note_ruled, see_ruled};
 use sqlite_disk::Files;
-use sqlite_std_file::{File, Unknown, open};
+use sqlite_std_file::{Unknown, open};
 use std::alloc::Global;
 use std::process::ExitCode;
 use std::{env, fs, io};
@@ -68,7 +72,11 @@ fn lists_in(rt: &HostRuntime, alloc: Global, folder: &str) -> Result<(Lists, boo
 }
 
 // The server of a folder.
-fn open_live(rt: &HostRuntime, alloc: Global, options: Options) -> Result<Live<File>, Refusal> {
+fn open_live(
+    rt: &HostRuntime,
+    alloc: Global,
+    options: Options,
+) -> Result<(Live<Owned>, Claim), Refusal> {
     let Options {
         folder,
         settings,
@@ -80,8 +88,13 @@ fn open_live(rt: &HostRuntime, alloc: Global, options: Options) -> Result<Live<F
         Ok(files) => files,
         Err(error) => return Err(unopened(folder, waits, error)),
     };
+    let claim = Claim::take(rt, alloc, folder.as_str(), waits)?;
+    let (Ok(one), Ok(other)) = (claim.again(), claim.again()) else {
+        return Err(Refusal::Claim(folder));
+    };
+    let (one, other) = (Claimed::new(db, one), Claimed::new(log, other));
     let prefix = settings.prefix.clone()?;
-    let mut live = match Live::open(alloc, db, log, lists, settings) {
+    let mut live = match Live::open(alloc, one, other, lists, settings) {
         Ok(live) => live,
         Err(error) => return Err(refused(folder, prefix, error)),
     };
@@ -95,11 +108,11 @@ fn open_live(rt: &HostRuntime, alloc: Global, options: Options) -> Result<Live<F
     if is_ruled {
         note_ruled(rt, alloc, folder.as_str())?;
     }
-    Ok(live)
+    Ok((live, claim))
 }
 
 // Begins with the arguments of the program.
-fn begin(rt: &HostRuntime, alloc: Global) -> Result<Live<File>, Refusal> {
+fn begin(rt: &HostRuntime, alloc: Global) -> Result<(Live<Owned>, Claim), Refusal> {
     let Ok(mut arguments) = env::args(rt) else {
         return Err(Refusal::Memory);
     };
@@ -111,9 +124,13 @@ fn begin(rt: &HostRuntime, alloc: Global) -> Result<Live<File>, Refusal> {
 fn main(rt: HostRuntime) -> ExitCode {
     let alloc = rt.alloc();
     match begin(&rt, alloc) {
-        Ok(mut live) => {
+        Ok((mut live, claim)) => {
             let mut watcher = Watcher::new(&rt);
             let fault = live.run(&mut rt.reader(), &mut io::writer(&rt), &mut watcher);
+            if fault == Fault::Ended {
+                // Where that fails, a standby waits a second.
+                let _ = claim.end();
+            }
             ExitCode::from(status_after(fault))
         }
         Err(refusal) => {

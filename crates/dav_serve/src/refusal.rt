@@ -49,6 +49,9 @@ pub enum Refusal {
     /// What a start drops of the state can't be kept beside.
     #[error("{0}/state.cut-N can't be written, so what a crash left in {0}/state or {0}/state-wal isn't dropped; nothing was changed")]
     Cut(String),
+    /// The state can't be claimed.
+    #[error("{0}/state.claim can't be written, by which another server would know that this one has the state; nothing was changed")]
+    Claim(String),
     /// The disk failed or is full.
     #[error("{0}/state or {0}/state-wal can't be read or written: the disk failed or is full")]
     Disk(String),
@@ -110,7 +113,7 @@ pub fn status_of(refusal: &Refusal) -> u8
     match refusal {
         Refusal::Memory => 3,
         Refusal::Foreign(_) | Refusal::Gone(_) | Refusal::Damaged(_, _) => 4,
-        Refusal::Cut(_) | Refusal::Disk(_) => 5,
+        Refusal::Cut(_) | Refusal::Claim(_) | Refusal::Disk(_) => 5,
         Refusal::InUse(_) | Refusal::Awaited => 6,
         Refusal::Options(_)
         | Refusal::Prefix(_)

@@ -1,7 +1,7 @@
 //! What a crash left of a block that was never answered, which a start drops: kept beside.
+use crate::claim::Owned;
 use crate::refusal::{Refusal, refused};
 use dav_live::Live;
-use sqlite_std_file::File;
 use std::alloc::Global;
 use std::io::Write;
 use std::{fs, io};
@@ -17,7 +17,7 @@ pub fn keep_rest(
     rt: &HostRuntime,
     alloc: Global,
     folder: &str,
-    live: &mut Live<File>,
+    live: &mut Live<Owned>,
 ) -> Result<(), Refusal> {
     let (place, count) = match live.rest() {
         Ok(rest) => rest,
@@ -58,7 +58,7 @@ fn free_path(rt: &HostRuntime, alloc: Global, folder: &str) -> io::Result<String
 fn copy(
     rt: &HostRuntime,
     path: &str,
-    live: &mut Live<File>,
+    live: &mut Live<Owned>,
     place: usize,
     count: usize,
 ) -> io::Result<()> {
