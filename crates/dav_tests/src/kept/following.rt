@@ -228,6 +228,9 @@ fn it_goes_on_over_another_journal(rt: HostRuntime) -> Result<(), Fail> {
     };
     let kept = kept.go_on_over(rest)?;
     assert_eq!(rt; heads_of(alloc, &kept)?.as_str(), "a*b");
-    assert_eq!(rt; (kept.tokens(), kept.latest(), kept.is_new()), (0, 1, false));
+    assert_eq!(rt;
+        (kept.tokens(), kept.latest(), kept.is_new()),
+        (0, 1, false)
+    );
     Ok(())
 }
