@@ -2,8 +2,7 @@
 ghost use Rattle.std.specs.Prelude.{⊤};
 
 use crate::kept::Heads;
-use bytes::Bytes;
-use dav_kept::{Follows, Keeps, Kept, KeptError, Request};
+use dav_kept::{Follows, Keeps, Kept, KeptError, Record};
 use http::StatusCode;
 use std::alloc::{AllocError, Global};
 use std::test::Fail;
@@ -45,19 +44,19 @@ impl Coming {
 // A block with the records of these heads.
 fn block_of(alloc: Global, heads: &str) -> Result<Vec<u8>, AllocError> {
     let mut block = Vec::new(alloc);
-    let body = Bytes::from_static(b"body");
     for head in heads.split(',') {
         if head.is_empty() {
             continue;
         }
-        let request = Request {
+        let record = Record {
             moment: 1,
+            status: 201,
             principal: None,
             token: None,
             head: head.as_bytes(),
-            body: &body,
+            body: b"body",
         };
-        request.record(201).write(&mut block)?;
+        record.write(&mut block)?;
     }
     Ok(block)
 }
