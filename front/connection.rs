@@ -22,9 +22,9 @@ const LONG: Duration = Duration::from_millis(2);
 const MANY: usize = PIECE;
 
 /// After a long one others have the core for at least as long, and until it gave this many orders for each that waited meanwhile: so of their requests
-/// one in a hundred waits for a long one. But it waits no more than so many times as long.
-const EACH: u64 = 100;
-const TIMES: u32 = 8;
+/// fewer than one in a hundred wait for a long one. But it waits no more than so many times as long.
+const EACH: u64 = 150;
+const TIMES: u32 = 12;
 
 /// What the core may order to be done after the bytes were written: to say that they were; to read, where nothing of a request came, a
 /// part of a head, or a head whose body isn't whole; or to close.
