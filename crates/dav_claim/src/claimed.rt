@@ -157,20 +157,25 @@ impl<D: Disk, C: Claims<D>> Disk for Claimed<D, C> {
             → IsErr result × (disk_of self.new ≡ disk_of self.old) }
         ensures written { OnOk result (0 < length bytes.now
             → Holds (D.seen (disk_of self.new)) at bytes.now) }
-        ensures faults { CountsFault result (faults_of D.faults self.old) (faults_of D.faults self.new) }
-        ensures clean { IsTrue (D.is_clean (disk_of self.new)) → IsTrue (D.is_clean (disk_of self.old)) }
+        ensures faults { CountsFault result (faults_of D.faults self.old)
+            (faults_of D.faults self.new) }
+        ensures clean { IsTrue (D.is_clean (disk_of self.new))
+            → IsTrue (D.is_clean (disk_of self.old)) }
         ensures calm { D.is_clean (disk_of self.new) ≡ D.is_clean (disk_of self.old) }
         ensures fair { D.is_fair (disk_of self.new) ≡ D.is_fair (disk_of self.old) }
         ensures frozen { IsTrue (D.is_frozen (disk_of self.old)) → IsErr result
             × StaysFrozen (λ w. D.seen (disk_of w)) (λ w. D.may_leave (disk_of w))
             (λ w. D.is_clean (disk_of w)) (λ w. D.is_frozen (disk_of w)) self.old self.new }
-        ensures tally { CountsRefusal result (D.tally_of (disk_of self.old)) (D.tally_of (disk_of self.new)) }
+        ensures tally { CountsRefusal result (D.tally_of (disk_of self.old))
+            (D.tally_of (disk_of self.new)) }
         ensures key { D.key_of (disk_of self.new) ≡ D.key_of (disk_of self.old) }
-        ensures others { Torn at (length bytes.now) (D.seen (disk_of self.old)) (D.seen (disk_of self.new)) }
+        ensures others { Torn at (length bytes.now) (D.seen (disk_of self.old))
+            (D.seen (disk_of self.new)) }
         ensures usable { IsTrue (can_be_used D.is_usable self.new) }
         ensures mixing { D.is_mixing (disk_of self.new) ≡ D.is_mixing (disk_of self.old) }
         ensures mixed { IsTrue (D.is_mixing (disk_of self.old)) → at + length bytes.now < 2 ^ 64
-            → Follows (Mixed at bytes.now) (D.may_leave (disk_of self.old)) (D.may_leave (disk_of self.new)) }
+            → Follows (Mixed at bytes.now) (D.may_leave (disk_of self.old))
+            (D.may_leave (disk_of self.new)) }
         ensures crash { Follows (Torn at (length bytes.now)) (D.may_leave (disk_of self.old))
             (D.may_leave (disk_of self.new)) }
     {
@@ -185,18 +190,22 @@ impl<D: Disk, C: Claims<D>> Disk for Claimed<D, C> {
         ensures unfound { is_found self.old ≡ false → is_found self.new ≡ false
             → IsErr result × (disk_of self.new ≡ disk_of self.old) }
         ensures len { OnOk result (length (D.seen (disk_of self.new)) ≡ len) }
-        ensures faults { CountsFault result (faults_of D.faults self.old) (faults_of D.faults self.new) }
-        ensures clean { IsTrue (D.is_clean (disk_of self.new)) → IsTrue (D.is_clean (disk_of self.old)) }
+        ensures faults { CountsFault result (faults_of D.faults self.old)
+            (faults_of D.faults self.new) }
+        ensures clean { IsTrue (D.is_clean (disk_of self.new))
+            → IsTrue (D.is_clean (disk_of self.old)) }
         ensures calm { D.is_clean (disk_of self.new) ≡ D.is_clean (disk_of self.old) }
         ensures fair { D.is_fair (disk_of self.new) ≡ D.is_fair (disk_of self.old) }
         ensures frozen { IsTrue (D.is_frozen (disk_of self.old)) → IsErr result
             × StaysFrozen (λ w. D.seen (disk_of w)) (λ w. D.may_leave (disk_of w))
             (λ w. D.is_clean (disk_of w)) (λ w. D.is_frozen (disk_of w)) self.old self.new }
-        ensures tally { CountsRefusal result (D.tally_of (disk_of self.old)) (D.tally_of (disk_of self.new)) }
+        ensures tally { CountsRefusal result (D.tally_of (disk_of self.old))
+            (D.tally_of (disk_of self.new)) }
         ensures key { D.key_of (disk_of self.new) ≡ D.key_of (disk_of self.old) }
         ensures others { Cut len (D.seen (disk_of self.old)) (D.seen (disk_of self.new)) }
         ensures usable { IsTrue (can_be_used D.is_usable self.new) }
-        ensures crash { Follows (Cut len) (D.may_leave (disk_of self.old)) (D.may_leave (disk_of self.new)) }
+        ensures crash { Follows (Cut len) (D.may_leave (disk_of self.old))
+            (D.may_leave (disk_of self.new)) }
     {
         self.look.see_once(&self.disk)?;
         self.disk.set_len(len)
@@ -205,20 +214,25 @@ impl<D: Disk, C: Claims<D>> Disk for Claimed<D, C> {
     fn sync(&mut self) -> io::Result<()>
         requires { IsTrue (can_be_used D.is_usable self.old) }
         ensures own { OnOk result (C.found_own (claim_of self.new) (disk_of self.new)) }
-        ensures durable { OnOk result (Only (D.seen (disk_of self.old)) (D.may_leave (disk_of self.new))) }
-        ensures faults { CountsFault result (faults_of D.faults self.old) (faults_of D.faults self.new) }
-        ensures clean { IsTrue (D.is_clean (disk_of self.new)) → IsTrue (D.is_clean (disk_of self.old)) }
+        ensures durable { OnOk result (Only (D.seen (disk_of self.old))
+            (D.may_leave (disk_of self.new))) }
+        ensures faults { CountsFault result (faults_of D.faults self.old)
+            (faults_of D.faults self.new) }
+        ensures clean { IsTrue (D.is_clean (disk_of self.new))
+            → IsTrue (D.is_clean (disk_of self.old)) }
         ensures calm { D.is_clean (disk_of self.new) ≡ D.is_clean (disk_of self.old) }
         ensures fair { D.is_fair (disk_of self.new) ≡ D.is_fair (disk_of self.old) }
         ensures frozen { IsTrue (D.is_frozen (disk_of self.old)) → IsErr result
             × StaysFrozen (λ w. D.seen (disk_of w)) (λ w. D.may_leave (disk_of w))
             (λ w. D.is_clean (disk_of w)) (λ w. D.is_frozen (disk_of w)) self.old self.new }
-        ensures tally { CountsRefusal result (D.tally_of (disk_of self.old)) (D.tally_of (disk_of self.new)) }
+        ensures tally { CountsRefusal result (D.tally_of (disk_of self.old))
+            (D.tally_of (disk_of self.new)) }
         ensures key { D.key_of (disk_of self.new) ≡ D.key_of (disk_of self.old) }
         ensures seen { D.seen (disk_of self.new) ≡ D.seen (disk_of self.old) }
         ensures rot { D.is_rotten (disk_of self.new) ≡ D.is_rotten (disk_of self.old) }
         ensures usable { can_be_used D.is_usable self.new ≡ is_ok result }
-        ensures crash { (c : List ℕ) → D.may_leave (disk_of self.new) c → D.may_leave (disk_of self.old) c }
+        ensures crash { (c : List ℕ) → D.may_leave (disk_of self.new) c
+            → D.may_leave (disk_of self.old) c }
     {
         self.disk.sync()?;
         if let Err(error) = self.look.see(&self.disk) {
