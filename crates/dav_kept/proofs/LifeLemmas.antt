@@ -1,10 +1,12 @@
 -- The life of a server.
-use Rattle.std.proofs.Common.{◌≡◌, ℕ, ◌+◌, max, Bool, true, false, Option, Some, None, List, [], ◌∷◌, ◌++◌, refl, sym, ap, ◌∙◌, subst, append_assoc, append-nil}
+use Rattle.std.proofs.Common.{arith, ◌≡◌, ℕ, ◌+◌, max, Bool, true, false, Option, Some, None, List, [], ◌∷◌, ◌++◌, refl, sym, ap, ◌∙◌, subst, append_assoc, append-nil}
 use Rattle.std.specs.List.{concat}
+use Rattle.std.proofs.lemmas.List.Folds.{concat-append}
+use Rattle.std.proofs.lemmas.List.Elements.{All-nil}
 use Rattle.http_server.specs.declared.response.Response.{Response}
 use Rattle.dav_kept.specs.Kept.{Begins, RecordsFollow, Holding, IsRunOf, Leads, LoadsWhatWasSaved, PlaysRecords, RecordsRun, Snapshot, after, answer_step, committed, first_day, snapshot_of, with_batch, with_opening}
-use Rattle.dav_kept.specs.Life.{IsBeginning, IsDetermined, IsRunSince, LeftCanBeLeftOut, Lives, LivesAreRuns, LoadsOne, RunsAreOne, recorded_in, record_of, with_change}
-use Rattle.dav_kept.specs.Records.{RecordView, RequestView, records_bytes, latest_moment, record_bytes, count_tokens}
+use Rattle.dav_kept.specs.Life.{FollowersGoOn, IsBeginning, IsDetermined, IsRunSince, LeftCanBeLeftOut, Lives, LivesAreRuns, LoadsOne, ReadersChangeNothing, RunsAreOne, recorded_in, record_of, with_change}
+use Rattle.dav_kept.specs.Records.{IsRecord, RecordView, RequestView, records_bytes, latest_moment, record_bytes, count_tokens}
 use Rattle.dav_kept.specs.declared.handler.Effect.{Effect}
 use Rattle.dav_kept.specs.declared.handler.Effect.TheVariants as effect
 use Rattle.dav_kept.proofs.KeptLemmas.{concat_more, leads_append, leads_none, one_reading, plays_append, plays_none}
@@ -172,3 +174,32 @@ module _ {S : Type 0} (answers : S → RequestView → Response → S → Type 0
       let step : answer_step answers old.state (record_of x) mid.state = (x.response, refl, call.is_answer) in
       let first = left_out_first (record_of x) x.does old mid new (recorded_in xs) step call.held later.0 later.2 in
       (first.0, (mid.state, step, later.1), first.1)
+
+-- ---- behind another server
+
+module _ {S : Type 0} (answers : S → RequestView → Response → S → Type 0) (loads : S → List ℕ → S → Type 0) where
+  pub followers_go_on : FollowersGoOn answers loads
+  followers_go_on first start blocks more old new run was is plays =
+      let text : (concat blocks ++ old.batch) ++ concat more ≡ concat (blocks ++ more) ++ new.batch =
+      ap (λ (b : List ℕ). (concat blocks ++ b) ++ concat more) was
+      ∙ ap (λ (t : List ℕ). t ++ concat more) (append-nil (concat blocks))
+      ∙ sym (concat-append blocks more)
+      ∙ sym (append-nil (concat (blocks ++ more)))
+      ∙ ap (λ (b : List ℕ). concat (blocks ++ more) ++ b) (sym is) in
+      record {
+        begin = run.begin;
+        begins = run.begins;
+        plays = subst (λ (t : List ℕ). PlaysRecords (answer_step answers) t run.begin new) text
+            (plays_append (answer_step answers) (concat blocks ++ old.batch) (concat more) run.begin old new run.plays plays);
+      }
+
+  pub readers_change_nothing : ReadersChangeNothing answers
+  readers_change_nothing old new f was is =
+      let leads = f.plays.leads in
+      let more : f.more ≡ [] = ap (λ (b : List ℕ). b ++ f.more) (sym was) ∙ sym f.longer ∙ is in
+      let none : leads.records ≡ [] = one_reading leads.records [] leads.are (All-nil IsRecord) (sym leads.spelled ∙ more) in
+      let state : new.state ≡ old.state = subst (λ (rs : List RecordView). RecordsRun (answer_step answers) old.state rs new.state) none leads.runs in
+      let batch : new.batch ≡ old.batch = is ∙ sym was in
+      let tokens : new.tokens ≡ old.tokens = f.plays.counted ∙ ap (λ (n : ℕ). old.tokens + n) (leads.counted ∙ ap count_tokens none) ∙ omega arith in
+      let latest : new.latest ≡ old.latest = f.plays.last ∙ ap (λ (n : ℕ). max old.latest n) (leads.last ∙ ap latest_moment none) ∙ omega arith in
+      λ i. record { state = state i; batch = batch i; tokens = tokens i; latest = latest i }

@@ -1,4 +1,5 @@
 pub mod Error
 pub mod Kept
+pub mod Followed
 pub mod Life
 pub mod Records

@@ -131,3 +131,20 @@ LeftCanBeLeftOut {S} answers =
     → (new.batch ≡ old.batch ++ records_bytes (recorded_in calls))
     × RecordsRun (answer_step answers) old.state (map record_of calls) new.state
     × RecordsRun (answer_step answers) old.state (recorded_in calls) new.state
+
+-- ---- behind another server
+
+-- A server that played these blocks, and then plays more of them, is one that played all.
+abbrev pub FollowersGoOn : {S : Type 0} → (S → RequestView → Response → S → Type 0)
+    → (S → List ℕ → S → Type 0) → Type 0
+FollowersGoOn {S} answers loads =
+    (first : S) (start : Option Snapshot) (blocks more : List (List ℕ)) (old new : Holding S)
+    → IsRunOf (answer_step answers) loads first start blocks old → old.batch ≡ [] → new.batch ≡ []
+    → PlaysRecords (answer_step answers) (concat more) old new
+    → IsRunOf (answer_step answers) loads first start (blocks ++ more) new
+
+-- Where nothing is in the batch before some answers, and nothing after them, they changed nothing.
+abbrev pub ReadersChangeNothing : {S : Type 0} → (S → RequestView → Response → S → Type 0) → Type 0
+ReadersChangeNothing {S} answers =
+    (old new : Holding S) → RecordsFollow (answer_step answers) old new → old.batch ≡ []
+    → new.batch ≡ [] → new ≡ old

@@ -353,6 +353,13 @@ impl<H: Handles + Drop, J: Keeps + Drop> Kept<H, J> {
         self.is_new
     }
 
+    /// Whether all that was answered is kept: the batch is empty.
+    pub fn is_at_rest(&self) -> bool
+        ensures { IsTrue result ↔ ((held_by self.now).batch ≡ []) }
+    {
+        self.batch.is_empty()
+    }
+
     /// How many of all records have a token.
     pub fn tokens(&self) -> u64
         ensures { result ≡ (held_by self.now).tokens }

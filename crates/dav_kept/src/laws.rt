@@ -1,5 +1,5 @@
 //! What is true of records and their runs.
-ghost use Rattle.dav_kept.specs.Life.{LeftCanBeLeftOut, LivesAreRuns, RunsAreOne};
+ghost use Rattle.dav_kept.specs.Life.{FollowersGoOn, LeftCanBeLeftOut, LivesAreRuns, ReadersChangeNothing, RunsAreOne};
 ghost use Rattle.dav_kept.specs.Records.{OneReading};
 
 use crate::handler::Handles;
@@ -25,4 +25,15 @@ pub fn runs_are_one<H: Handles>()
 /// A request that left the state needs no record: the run without it gives the same state.
 pub fn left_can_be_left_out<H: Handles>()
     ensures { LeftCanBeLeftOut H.answers }
+{}
+
+/// A server that goes on with what another one keeps holds what that one does: the state of the run of
+/// all records in the blocks.
+pub fn followers_go_on<H: Handles>()
+    ensures { FollowersGoOn H.answers H.loads }
+{}
+
+/// Answers that leave nothing to be kept change nothing.
+pub fn readers_change_nothing<H: Handles>()
+    ensures { ReadersChangeNothing H.answers }
 {}

@@ -4,6 +4,7 @@
 
 mod batch;
 mod error;
+mod followed;
 mod following;
 mod former;
 mod handler;
@@ -14,6 +15,7 @@ mod over_journal;
 mod record;
 
 pub use error::{HandleError, KeptError};
+pub use followed::Followed;
 pub use following::Follows;
 pub use former::adopt;
 pub use handler::{Asks, Effect, Handles};

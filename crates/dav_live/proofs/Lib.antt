@@ -19,3 +19,4 @@ mod UnlockTexts
 mod RejectionLemmas
 mod PlainLemmas
 mod VerdictLemmas
+pub mod BehindRuns

@@ -1,5 +1,5 @@
 -- Which requests a live server runs, and what it runs of them.
-use Rattle.std.specs.Prelude.{◌≡◌, ◌≢◌, ◌<◌, ◌⊎◌, ◌↔◌, ◌==◌, ◌&&◌, ℕ, Bool, true, false, List, [], ◌∷◌, ◌++◌, Option, Some, None, Err, IfSome, IsTrue, if◌then◌else◌, codes, count_by, drop, length, min, option_map, string_bytes, take, unwrap_or}
+use Rattle.std.specs.Prelude.{◌≡◌, ◌≢◌, ◌<◌, ◌⊎◌, ◌↔◌, ◌==◌, ◌&&◌, ℕ, Bool, true, false, List, [], ◌∷◌, ◌++◌, Option, Some, None, Err, IfSome, IsTrue, if◌then◌else◌, codes, count_by, drop, length, min, option_map, string_bytes, take, unwrap_or, max}
 use Rattle.std.specs.Option.{is_none, is_some}
 use Rattle.dav_access.specs.declared.limit.Limit.{Limit}
 use Rattle.dav_access.specs.Rules.{Rules}
@@ -230,6 +230,10 @@ challenge_fields status = if status == 401 then refusal_fields Unauthorized else
 abbrev pub after_clocks : AdmissionView → ℕ → ℕ → AdmissionView
 after_clocks a seconds date =
     record a { moment = min (moment_after a.moment a.seconds seconds date) last_moment; seconds = Some seconds }
+
+-- what it goes by where its moment is at least this one, which is at most the end of the year 9999
+abbrev pub gone_on : ℕ → AdmissionView → AdmissionView
+gone_on latest a = record a { moment = max a.moment (min latest last_moment) }
 
 -- the random bytes after the front told these: the first sixteen of them, in the place of as many
 abbrev pub with_random : List ℕ → List ℕ → List ℕ

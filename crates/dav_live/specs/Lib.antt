@@ -13,6 +13,7 @@ pub mod Answers
 pub mod Tokens
 pub mod Life
 pub mod LiveRun
+pub mod Behind
 pub mod Numbered
 pub mod LifePromises
 pub mod SavedRuns

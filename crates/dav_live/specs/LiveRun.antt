@@ -80,3 +80,10 @@ pub record HasServed {S : Type 0} (k : Keeping S) (config : TurnsConfig) (report
   pub serves : ServesTo k config reports left written all old new rest
   pub ends : IsAtEnd left
   pub none : HasNoReport rest
+
+-- Whatever was served before, but for this rest of what was read, all that there was to read is served.
+abbrev pub GoesOnToServe : {S : Type 0} → Keeping S → TurnsConfig → Option (List ℕ) → Option (List ℕ) → Option (List ℕ) → Option (List ℕ)
+    → turns.Server S → turns.Server S → List ℕ → Type 0
+GoesOnToServe {S} k config unread left written all mid new rest =
+    (reports before : Option (List ℕ)) (old : turns.Server S) → ServesTo k config reports unread before written old mid rest
+    → HasServed k config reports left before all old new

@@ -242,7 +242,7 @@ impl Admission {
     ghost use Rattle.dav_access.specs.Users.{IsName};
     ghost use Rattle.dav_core.specs.World.{last_moment};
     ghost use Rattle.dav_http.specs.Placed.{BeginsPast};
-    ghost use Rattle.dav_live.specs.Admission.{HasManySlashes, HasLeaveIn, HasSwollenBody, IsDecision, IsClosedTo, IsElsewhereIn, IsHeadKept, IsHereIn, IsLetIn, IsMadeBy, LooksIn, MayAskIn, IsOutside, IsRequestOf, TellsSafe, after_clocks, request_in, users_for, with_random};
+    ghost use Rattle.dav_live.specs.Admission.{HasManySlashes, HasLeaveIn, HasSwollenBody, IsDecision, IsClosedTo, IsElsewhereIn, IsHeadKept, IsHereIn, IsLetIn, IsMadeBy, LooksIn, MayAskIn, IsOutside, IsRequestOf, TellsSafe, after_clocks, gone_on, request_in, users_for, with_random};
     ghost use Rattle.dav_live.specs.Hosts.{value_of};
     ghost use Rattle.dav_live.specs.Lists.{IsFaulty, Reports};
 
@@ -289,6 +289,13 @@ impl Admission {
         ensures date { result ≤ last_moment }
     {
         self.moment
+    }
+
+    /// The prefix of all paths.
+    pub fn prefix(&self) -> &str
+        ensures { result.now ≡ self.now.prefix }
+    {
+        self.settings.prefix.as_str()
     }
 
     /// The rules, if there are any.
@@ -562,6 +569,13 @@ impl Admission {
             Err(ListsError::Memory) => Err(Stop::Memory),
             Err(error) => Ok(Some(error)),
         }
+    }
+
+    /// Goes on from this moment, where it is later.
+    pub fn go_on_from(&mut self, latest: u64)
+        ensures { self.new ≡ gone_on latest self.old }
+    {
+        self.moment = self.moment.max(latest.min(LAST_MOMENT));
     }
 
     /// Takes the front's clocks: the seconds of the steady one, and the date, in seconds since 1970. Whether the moment went on.

@@ -1,4 +1,7 @@
 //! Why a server ends, and why it can't begin.
+ghost use Rattle.std.specs.Prelude.{◌≢◌};
+ghost use Rattle.dav_live.specs.declared.fault.Fault.TheVariants.{Ended};
+
 use dav_journal::JournalError;
 use dav_kept::KeptError;
 use dav_server::davhandler::HandlerError;
@@ -24,6 +27,18 @@ pub enum Fault {
     Disk,
 }
 
+impl Fault {
+    /// Why a server ends whose requests can't be answered or kept any more.
+    pub(crate) fn of(stop: Stop) -> Fault
+        ensures { result ≢ Ended }
+    {
+        match stop {
+            Stop::Memory => Fault::Memory,
+            Stop::Disk => Fault::Disk,
+        }
+    }
+}
+
 impl From<AllocError> for Fault {
     ghost use Rattle.std.specs.Prelude.{◌≡◌};
     ghost use Rattle.dav_live.specs.declared.fault.Fault.TheVariants.{Memory};
@@ -44,8 +59,7 @@ impl From<TurnError> for Fault {
     fn from(error: TurnError) -> Fault {
         match error {
             TurnError::Pipe => Fault::Pipe,
-            TurnError::Stopped(Stop::Memory) => Fault::Memory,
-            TurnError::Stopped(Stop::Disk) => Fault::Disk,
+            TurnError::Stopped(stop) => Fault::of(stop),
         }
     }
 }

@@ -12,7 +12,7 @@ use crate::service::{Service, preface};
 use crate::settings::Settings;
 use dav_http::Handler;
 use dav_journal::Pair;
-use dav_kept::adopt;
+use dav_kept::{Keeps, adopt};
 use dav_turns::{Pipe, ReadError, Turns, TurnsConfig};
 use dav_wire::Config;
 use http1::Limits;
@@ -60,7 +60,7 @@ impl<D: Disk + Drop> Live<D> {
     ghost use Rattle.dav_live.specs.Answers.{IsAnswer};
     ghost use Rattle.dav_live.specs.Runs.{IsOneRun, IsOpened, RunGoesOn};
     ghost use Rattle.dav_live.specs.Numbered.{AreNumbered};
-    ghost use Rattle.dav_live.specs.LiveRun.{HasNoReport, HasServed, ServesOn, doing, kept_in, server_of, service_of, turns_of};
+    ghost use Rattle.dav_live.specs.LiveRun.{GoesOnToServe, HasNoReport, HasServed, ServesOn, doing, kept_in, server_of, service_of, turns_of};
 
     /// A server over the two files of its journal: what it answers is as after the requests that the journal has. The files are as
     /// they were, unless they were empty, or the first was the journal of a server from before it made snapshots, which becomes the
@@ -158,14 +158,45 @@ impl<D: Disk + Drop> Live<D> {
         let Ok(mut pipe) = Pipe::new(self.alloc) else {
             return Fault::Memory;
         };
+        self.run_on(&mut pipe, reader, writer, watch)
+    }
+
+    /// The same, where bytes of the input were read before that weren't heard: what was served so far, and this, is one stream of turns.
+    pub fn run_on<R: Read, W: Write, L: Watch>(
+        &mut self,
+        pipe: &mut Pipe,
+        reader: &mut R,
+        writer: &mut W,
+        watch: &mut L,
+    ) -> Fault
+        ensures run { result ≡ Fault.Ended → RunGoesOn IsAnswer saved_bytes IsSaveable
+            (λ j. IsCleanPair D.Disk j) (λ j bs. IsKeptPair D.Disk j bs) (kept_in self.old)
+            (kept_in self.new) }
+        ensures served { result ≡ Fault.Ended → GoesOnToServe (doing D.Disk)
+            (turns_of self.old).config (R.remaining reader.old) (R.remaining reader.new)
+            (W.contents writer.old) (W.contents writer.new) (server_of self.old)
+            (server_of self.new) pipe.old }
+    {
         let mut orders = Vec::new(self.alloc);
         for _ in 0..u64::MAX {
-            match self.serve_once(&mut pipe, &mut orders, reader, writer, watch) {
+            match self.serve_once(pipe, &mut orders, reader, writer, watch) {
                 Ok(()) => {}
                 Err(fault) => return fault,
             }
         }
         Fault::Pipe
+    }
+
+    // A server that goes on with these connections.
+    pub(crate) fn over(alloc: Global, turns: Turns, service: Service<Machine, Pair<D>>) -> Live<D>
+        ensures turns { turns_of result ≡ turns }
+        ensures service { service_of result ≡ service }
+    {
+        Live {
+            alloc,
+            turns,
+            service,
+        }
     }
 
     /// Takes the reports that came, and writes the orders for them: nothing before all that was answered is kept. The run of the
@@ -258,7 +289,7 @@ fn live_of<D: Disk + Drop>(
 }
 
 // The limits of the connections: of each, heads of 16 KiB, and no request is read while more than 64 KiB wait to be sent.
-fn config_of<D: Disk + Drop>(service: &Service<Machine, Pair<D>>) -> TurnsConfig {
+pub(crate) fn config_of<J: Keeps + Drop>(service: &Service<Machine, J>) -> TurnsConfig {
     let connection = Config {
         limits: Limits::default(),
         max_body_len: usize::try_from(service.most_body()).unwrap_or(usize::MAX),
@@ -272,7 +303,7 @@ fn config_of<D: Disk + Drop>(service: &Service<Machine, Pair<D>>) -> TurnsConfig
 }
 
 // Reads once, where no whole report is left.
-fn read_more<R: Read>(pipe: &mut Pipe, reader: &mut R) -> Result<(), Fault>
+pub(crate) fn read_more<R: Read>(pipe: &mut Pipe, reader: &mut R) -> Result<(), Fault>
     ensures read { OnOk result ((more : List ℕ)
         × Consumes (R.remaining reader.old) (R.remaining reader.new) more
         × (pipe.new ≡ pipe.old ++ more)) }

@@ -1,5 +1,6 @@
 //! What answers the requests of all connections: it asks the rooms in their order.
 mod answering;
+mod following;
 mod hearing;
 mod trying;
 

@@ -15,6 +15,7 @@ ghost use Rattle.dav_serve.specs.Status.{status_after};
 
 mod begun;
 mod claim;
+mod follow;
 mod found;
 mod options;
 mod refusal;
@@ -26,13 +27,14 @@ use begun::{note_begun, see_begun};
 use claim::{Claim, Owned};
 use dav_claim::Claimed;
 use dav_live::{Fault, Lists, ListsError, Live};
+use follow::follow;
 use found::text_in;
 use options::Options;
 use refusal::{Refusal, refused, status_of, unopened};
 use rest::keep_rest;
 use ruled::{note_ruled, see_ruled};
 use sqlite_disk::Files;
-use sqlite_std_file::{Unknown, open};
+use sqlite_std_file::{File, OpenError, Unknown, open};
 use std::alloc::Global;
 use std::process::ExitCode;
 use std::{env, fs, io};
@@ -71,68 +73,112 @@ fn lists_in(rt: &HostRuntime, alloc: Global, folder: &str) -> Result<(Lists, boo
     }
 }
 
-// The server of a folder.
+// The options of the program.
+fn options_of(rt: &HostRuntime, alloc: Global) -> Result<Options, Refusal> {
+    let Ok(mut arguments) = env::args(rt) else {
+        return Err(Refusal::Memory);
+    };
+    let _program = arguments.next();
+    Ok(Options::read(alloc, &mut arguments)?)
+}
+
+// The files of a folder's state, which no other process has.
+fn files_of(rt: &HostRuntime, alloc: Global, folder: &str) -> Result<Files<File>, OpenError> {
+    let path = format!(in alloc; "{folder}/state")?;
+    open(rt, path.as_str(), Unknown)
+}
+
+// These files, as they are written under a claim.
+fn owned(
+    alloc: Global,
+    folder: &str,
+    claim: &Claim,
+    files: Files<File>,
+) -> Result<(Owned, Owned), Refusal> {
+    let Files { db, log } = files;
+    match (claim.again(), claim.again()) {
+        (Ok(one), Ok(other)) => Ok((Claimed::new(db, one), Claimed::new(log, other))),
+        _ => Err(Refusal::Claim(String::from_str(alloc, folder)?)),
+    }
+}
+
+// A server that was opened, ready for requests.
+fn made_ready(
+    rt: &HostRuntime,
+    alloc: Global,
+    folder: &str,
+    prefix: &str,
+    is_ruled: bool,
+    mut live: Live<Owned>,
+) -> Result<Live<Owned>, Refusal> {
+    see_begun(rt, alloc, folder, &live)?;
+    keep_rest(rt, alloc, folder, &mut live)?;
+    if let Err(error) = live.begin() {
+        let folder = String::from_str(alloc, folder)?;
+        return Err(refused(folder, String::from_str(alloc, prefix)?, error));
+    }
+    note_begun(rt, alloc, folder)?;
+    if is_ruled {
+        note_ruled(rt, alloc, folder)?;
+    }
+    Ok(live)
+}
+
+// The server of a folder, whose files these are.
 fn open_live(
     rt: &HostRuntime,
     alloc: Global,
     options: Options,
+    lists: Lists,
+    is_ruled: bool,
+    files: Files<File>,
 ) -> Result<(Live<Owned>, Claim), Refusal> {
     let Options {
         folder,
         settings,
         waits,
+        ..
     } = options;
-    let (lists, is_ruled) = lists_in(rt, alloc, folder.as_str())?;
-    let path = format!(in alloc; "{folder}/state")?;
-    let Files { db, log } = match open(rt, path.as_str(), Unknown) {
-        Ok(files) => files,
-        Err(error) => return Err(unopened(folder, waits, error)),
-    };
     let claim = Claim::take(rt, alloc, folder.as_str(), waits)?;
-    let (Ok(one), Ok(other)) = (claim.again(), claim.again()) else {
-        return Err(Refusal::Claim(folder));
-    };
-    let (one, other) = (Claimed::new(db, one), Claimed::new(log, other));
+    let (one, other) = owned(alloc, folder.as_str(), &claim, files)?;
     let prefix = settings.prefix.clone()?;
-    let mut live = match Live::open(alloc, one, other, lists, settings) {
-        Ok(live) => live,
-        Err(error) => return Err(refused(folder, prefix, error)),
-    };
-    see_begun(rt, alloc, folder.as_str(), &live)?;
-    keep_rest(rt, alloc, folder.as_str(), &mut live)?;
-    match live.begin() {
-        Ok(()) => {}
-        Err(error) => return Err(refused(folder, prefix, error)),
+    match Live::open(alloc, one, other, lists, settings) {
+        Ok(live) => {
+            let live = made_ready(rt, alloc, folder.as_str(), prefix.as_str(), is_ruled, live)?;
+            Ok((live, claim))
+        }
+        Err(error) => Err(refused(folder, prefix, error)),
     }
-    note_begun(rt, alloc, folder.as_str())?;
-    if is_ruled {
-        note_ruled(rt, alloc, folder.as_str())?;
-    }
-    Ok((live, claim))
 }
 
-// Begins with the arguments of the program.
-fn begin(rt: &HostRuntime, alloc: Global) -> Result<(Live<Owned>, Claim), Refusal> {
-    let Ok(mut arguments) = env::args(rt) else {
-        return Err(Refusal::Memory);
+// Lets go of the state, where the input of its server ended.
+fn finish(claim: Claim, fault: Fault) -> Fault
+    ensures { result ≡ fault }
+{
+    if fault == Fault::Ended {
+        // Where that fails, a standby waits a second.
+        let _ = claim.end();
+    }
+    fault
+}
+
+// Serves until the input ends, or something fails: why it ended.
+fn serve(rt: &HostRuntime, alloc: Global) -> Result<Fault, Refusal> {
+    let options = options_of(rt, alloc)?;
+    let (lists, is_ruled) = lists_in(rt, alloc, options.folder.as_str())?;
+    let files = match files_of(rt, alloc, options.folder.as_str()) {
+        Ok(files) => files,
+        Err(OpenError::Busy) if options.follows => return follow(rt, alloc),
+        Err(error) => return Err(unopened(options.folder, options.waits, error)),
     };
-    let _program = arguments.next();
-    let options = Options::read(alloc, &mut arguments)?;
-    open_live(rt, alloc, options)
+    let (mut live, claim) = open_live(rt, alloc, options, lists, is_ruled, files)?;
+    let fault = live.run(&mut rt.reader(), &mut io::writer(rt), &mut Watcher::new(rt));
+    Ok(finish(claim, fault))
 }
 
 fn main(rt: HostRuntime) -> ExitCode {
-    let alloc = rt.alloc();
-    match begin(&rt, alloc) {
-        Ok((mut live, claim)) => {
-            let mut watcher = Watcher::new(&rt);
-            let fault = live.run(&mut rt.reader(), &mut io::writer(&rt), &mut watcher);
-            if fault == Fault::Ended {
-                // Where that fails, a standby waits a second.
-                let _ = claim.end();
-            }
-            ExitCode::from(status_after(fault))
-        }
+    match serve(&rt, rt.alloc()) {
+        Ok(fault) => ExitCode::from(status_after(fault)),
         Err(refusal) => {
             if !matches!(refusal, Refusal::Awaited) {
                 // A failed write to standard error can't be reported anywhere.

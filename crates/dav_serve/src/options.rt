@@ -26,13 +26,15 @@ pub struct Options {
     pub settings: Settings,
     /// Whether the state is waited for where it is in use.
     pub waits: bool,
+    /// Whether it is shown then, as who has it keeps it.
+    pub follows: bool,
 }
 
 /// Why arguments aren't understood.
 #[derive(Debug, Drop, Error)]
 pub enum OptionsError {
     /// There is no folder among them.
-    #[error("usage: dav-serve FOLDER [--prefix /PATH] [--host NAME].. [--lock-time SECONDS] [--body BYTES] [--waiting BYTES] [--files COUNT] [--space BYTES] [--only NAME].. [--snapshot-past BYTES] [--strict] [--read-only] [--log] [--wait]")]
+    #[error("usage: dav-serve FOLDER [--prefix /PATH] [--host NAME].. [--lock-time SECONDS] [--body BYTES] [--waiting BYTES] [--files COUNT] [--space BYTES] [--only NAME].. [--snapshot-past BYTES] [--strict] [--read-only] [--log] [--wait] [--follow]")]
     NoFolder,
     /// No option has this name.
     #[error("'{0}' isn't an option")]
@@ -67,8 +69,8 @@ impl<T: Drop> From<AllocFailed<T>> for OptionsError {
 }
 
 impl Options {
-    /// The options of arguments: a folder, and then options, each with its value but for `--log`, `--strict`, `--read-only` and
-    /// `--wait`. Of an option that comes twice the last one counts, but for `--host` and `--only`.
+    /// The options of arguments: a folder, and then options, each with its value but for `--log`, `--strict`, `--read-only`,
+    /// `--wait` and `--follow`. Of an option that comes twice the last one counts, but for `--host` and `--only`.
     pub fn read(alloc: Global, arguments: &mut Args) -> Result<Options, OptionsError> {
         let Some(folder) = arguments.next() else {
             return Err(OptionsError::NoFolder);
@@ -86,7 +88,7 @@ impl Options {
             short_journal: SHORT_JOURNAL,
             logs: false,
         };
-        let mut waits = false;
+        let (mut waits, mut follows) = (false, false);
         for _ in 0..u64::MAX {
             let Some(name) = arguments.next() else {
                 break;
@@ -96,6 +98,7 @@ impl Options {
                 "--strict" => settings.strict = true,
                 "--read-only" => settings.read_only = true,
                 "--wait" => waits = true,
+                "--follow" => follows = true,
                 _ => set(&mut settings, name, arguments.next())?,
             }
         }
@@ -104,6 +107,7 @@ impl Options {
             folder,
             settings,
             waits,
+            follows,
         })
     }
 }

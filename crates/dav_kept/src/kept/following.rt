@@ -1,6 +1,7 @@
 //! A server's state goes on with what another one keeps.
-ghost use Rattle.std.specs.Prelude.{◌≡◌, ◌++◌, ◌∷◌, [], ℕ, List, true, false, IfOk, MatchOption};
+ghost use Rattle.std.specs.Prelude.{◌≡◌, ◌++◌, ◌∷◌, [], ℕ, List, true, false, IfOk, OnOk, MatchOption};
 ghost use Rattle.std.specs.List.{concat};
+ghost use Rattle.dav_kept.specs.Followed.{TakesOver};
 ghost use Rattle.dav_kept.specs.Kept.{PlaysRecords, StaysAsKept, answer_step, held_by, is_new, journal_of, preface_of};
 
 use crate::error::KeptError;
@@ -8,6 +9,7 @@ use crate::following::Follows;
 use crate::handler::Handles;
 use crate::journal::Keeps;
 use crate::kept::Kept;
+use std::alloc::Global;
 
 impl<H: Handles + Drop, J: Follows + Drop> Kept<H, J> {
     /// Plays the blocks that another opening kept behind those that were played, each once, until none
@@ -67,6 +69,18 @@ impl<H: Handles + Drop, J: Follows + Drop> Kept<H, J> {
 }
 
 impl<H: Handles + Drop, J: Keeps + Drop> Kept<H, J> {
+    /// Goes on over another opening of what was read here, in the place of who kept it: reads its
+    /// blocks, without a request of them being run again, until they end where those end that were
+    /// played here, and plays the ones that follow. `Damaged` where none ends there. `begin` comes
+    /// next.
+    pub fn take_over<K: Keeps + Drop>(self, mut journal: K) -> Result<Kept<H, K>, KeptError>
+        ensures { IfOk result (λ k. TakesOver H.answers J.ends_at K.is_clean K.has_so_far
+            K.has_read K.ends_at self journal k) }
+    {
+        read_until(self.alloc, &mut journal, self.journal.place())?;
+        self.go_on_over(journal)
+    }
+
     /// Goes on over another journal, of which those blocks were read that were played here: plays the
     /// ones that follow, until none does. `begin` comes next.
     pub fn go_on_over<K: Keeps + Drop>(self, journal: K) -> Result<Kept<H, K>, KeptError>
@@ -106,4 +120,27 @@ impl<H: Handles + Drop, J: Keeps + Drop> Kept<H, J> {
         kept.play_blocks()?;
         Ok(kept)
     }
+}
+
+// Reads the blocks of a journal that end up to this place: `Damaged` where none ends there.
+fn read_until<K: Keeps>(alloc: Global, journal: &mut K, place: usize) -> Result<(), KeptError>
+    ensures read { OnOk result ((blocks : List (List ℕ)) × (K.is_clean journal.new
+        → (before : List (List ℕ)) → K.has_so_far journal.old before
+        → K.has_so_far journal.new (before ++ blocks))) }
+    ensures place { OnOk result (K.ends_at journal.new ≡ place) }
+    ensures clean { K.is_clean journal.new → K.is_clean journal.old }
+{
+    for _ in 0..u64::MAX {
+        let here = journal.place();
+        if here == place {
+            return Ok(());
+        }
+        if here > place {
+            return Err(KeptError::Damaged(here));
+        }
+        let Some(_block) = journal.next(alloc)? else {
+            return Err(KeptError::Damaged(here));
+        };
+    }
+    Err(KeptError::Disk)
 }

@@ -2,8 +2,10 @@
 ghost use Rattle.std.specs.Prelude.{⊤};
 
 use crate::kept::Heads;
-use dav_kept::{Follows, Keeps, Kept, KeptError, Record};
+use bytes::Bytes;
+use dav_kept::{Followed, Follows, Keeps, Kept, KeptError, Record, Request};
 use http::StatusCode;
+use http_server::Response;
 use std::alloc::{AllocError, Global};
 use std::test::Fail;
 
@@ -30,6 +32,8 @@ struct Coming {
     script: String,
     looks: usize,
     is_anew: bool,
+    // Where what was read ends.
+    ended: usize,
 }
 
 impl Coming {
@@ -74,7 +78,7 @@ impl Keeps for Coming {
 
     ghost is_own = { λ j. ⊤ };
 
-    ghost ends_at = { λ j. 0 };
+    ghost ends_at = { λ j. j.ended };
 
     ghost has_bytes = { λ j at bytes. ⊤ };
 
@@ -89,7 +93,7 @@ impl Keeps for Coming {
     }
 
     fn place(&self) -> usize {
-        0
+        self.ended
     }
 
     fn rest(&mut self) -> Result<usize, KeptError> {
@@ -153,6 +157,25 @@ impl Follows for Coming {
     ghost read_is_so_far = { λ j blocks read. read };
 }
 
+// A journal whose first block is there, or was read before; this comes then.
+fn journal_that(alloc: Global, has_first: bool, script: &str) -> Result<Coming, AllocError> {
+    Ok(Coming {
+        has_first,
+        script: String::from_str(alloc, script)?,
+        looks: 0,
+        is_anew: false,
+        ended: 0,
+    })
+}
+
+// A server that answered nothing.
+fn no_heads(alloc: Global) -> Heads {
+    Heads {
+        heads: Vec::new(alloc),
+        made: StatusCode::CREATED,
+    }
+}
+
 // The heads of a server, `.` where it has none.
 fn heads_of<J: Keeps + Drop>(alloc: Global, kept: &Kept<Heads, J>) -> Result<String, Fail> {
     let heads = String::from_utf8(kept.handler().heads.clone()?)?;
@@ -164,17 +187,12 @@ fn heads_of<J: Keeps + Drop>(alloc: Global, kept: &Kept<Heads, J>) -> Result<Str
 
 // What a server is each time that it followed, so many times at most.
 fn followed(alloc: Global, script: &str, times: usize) -> Result<String, Fail> {
-    let heads = Heads {
-        heads: Vec::new(alloc),
-        made: StatusCode::CREATED,
-    };
-    let coming = Coming {
-        has_first: true,
-        script: String::from_str(alloc, script)?,
-        looks: 0,
-        is_anew: false,
-    };
-    let mut kept = Kept::open(alloc, heads, coming, b"/")?;
+    let mut kept = Kept::open(
+        alloc,
+        no_heads(alloc),
+        journal_that(alloc, true, script)?,
+        b"/",
+    )?;
     let mut found = String::new(alloc);
     for time in 0..times {
         if time > 0 {
@@ -207,29 +225,57 @@ fn what_comes_is_played(rt: HostRuntime) -> Result<(), Fail> {
 #[test]
 fn it_goes_on_over_another_journal(rt: HostRuntime) -> Result<(), Fail> {
     let alloc = rt.alloc();
-    let heads = Heads {
-        heads: Vec::new(alloc),
-        made: StatusCode::CREATED,
-    };
-    let coming = Coming {
-        has_first: true,
-        script: String::from_str(alloc, "a *b .")?,
-        looks: 0,
-        is_anew: false,
-    };
-    let mut kept = Kept::open(alloc, heads, coming, b"/")?;
+    let mut kept = Kept::open(
+        alloc,
+        no_heads(alloc),
+        journal_that(alloc, true, "a *b .")?,
+        b"/",
+    )?;
     assert!(rt; kept.follow()?);
-    let rest = Coming {
-        has_first: false,
-        script: String::new(alloc),
-        looks: 0,
-        is_anew: false,
-    };
-    let kept = kept.go_on_over(rest)?;
+    let kept = kept.go_on_over(journal_that(alloc, false, "")?)?;
     assert_eq!(rt; heads_of(alloc, &kept)?.as_str(), "a*b");
     assert_eq!(rt;
         (kept.tokens(), kept.latest(), kept.is_new()),
         (0, 1, false)
     );
+    Ok(())
+}
+
+/// A journal that is followed is read from its first block on, and nothing is kept there.
+#[test]
+fn what_is_followed_is_only_read(rt: HostRuntime) -> Result<(), Fail> {
+    let alloc = rt.alloc();
+    let journal = Followed::new(journal_that(alloc, true, "a b . c .")?);
+    let mut kept = Kept::open(alloc, no_heads(alloc), journal, b"/")?;
+    assert_eq!(rt; heads_of(alloc, &kept)?.as_str(), "ab");
+    assert!(rt; kept.follow()? && kept.is_at_rest());
+    assert_eq!(rt; heads_of(alloc, &kept)?.as_str(), "abc");
+    let body = Bytes::new();
+    let request = Request {
+        moment: 2,
+        principal: None,
+        token: None,
+        head: b"d",
+        body: &body,
+    };
+    let mut response = Response::new(alloc);
+    assert!(rt; kept.answer(&request, &mut response)?.is_none() && kept.is_at_rest());
+    assert_eq!(rt; heads_of(alloc, &kept)?.as_str(), "abc");
+    Ok(())
+}
+
+/// The place of who kept it is taken where what was played ends, and else not.
+#[test]
+fn its_place_is_taken(rt: HostRuntime) -> Result<(), Fail> {
+    let alloc = rt.alloc();
+    let journal = Followed::new(journal_that(alloc, true, "a *b .")?);
+    let kept = Kept::open(alloc, no_heads(alloc), journal, b"/")?;
+    let kept = kept.take_over(journal_that(alloc, false, "")?)?;
+    assert_eq!(rt; heads_of(alloc, &kept)?.as_str(), "a*b");
+    let mut shorter = journal_that(alloc, true, ".")?;
+    shorter.ended = 7;
+    let kept = Kept::open(alloc, no_heads(alloc), Followed::new(shorter), b"/")?;
+    let other = kept.take_over(journal_that(alloc, false, "")?);
+    assert!(rt; matches!(other, Err(KeptError::Damaged(0))));
     Ok(())
 }

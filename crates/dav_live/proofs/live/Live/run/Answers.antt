@@ -1,56 +1,11 @@
-use Rattle.std.proofs.Common.{◌≡◌, ℕ, List, Option, Err, ap, refl, subst, sym, ◌∙◌}
-use Rattle.dav_journal.specs.Pair.{IsCleanPair, IsKeptPair}
-use Rattle.dav_http.specs.Saved.{IsSaveable, saved_bytes}
-use Rattle.dav_live.specs.Answers.{IsAnswer}
-use Rattle.dav_live.specs.Runs.{RunGoesOn}
-use Rattle.dav_turns.specs.declared.config.TurnsConfig.{TurnsConfig}
-use Rattle.dav_live.specs.LiveRun.{HasServed, ServesTo, doing, kept_in, server_of, turns_of}
-use Rattle.dav_live.specs.declared.live.Live.{Live}
-use Rattle.dav_live.proofs.StreamLemmas.{all_served, none_served}
-use Rattle.dav_live.specs.declared.fault.Fault.{Fault}
-use Rattle.dav_live.proofs.RunLemmas.{runs_then, same_runs}
+use Rattle.std.proofs.Common.{◌≡◌, ℕ, List, subst, sym}
+use Rattle.dav_live.specs.LiveRun.{ServesTo, doing, server_of, turns_of}
+use Rattle.dav_live.proofs.StreamLemmas.{none_served}
 use Rattle.dav_live.proofs.live.Live.run.Goals as goal
 
-pub loop-init : goal.loop-init
-loop-init g c = (
-  same_runs IsAnswer saved_bytes IsSaveable (λ j. IsCleanPair g.D.Disk j) (λ j bs. IsKeptPair g.D.Disk j bs) (kept_in c.args.self.now) (kept_in c.args.self.now) refl,
-  subst (λ (rest : List ℕ). ServesTo (doing g.D.Disk) (turns_of c.args.self.now).config (g.R.Read.remaining c.args.reader.now) (g.R.Read.remaining c.args.reader.now)
-      (g.W.Write.contents c.args.writer.now) (g.W.Write.contents c.args.writer.now) (server_of c.args.self.now) (server_of c.args.self.now) rest) (sym c.in-Ok.ensures)
-      (none_served (doing g.D.Disk) (turns_of c.args.self.now).config (g.R.Read.remaining c.args.reader.now) (g.W.Write.contents c.args.writer.now) (server_of c.args.self.now)),
-  refl,
-)
-
-pub loop-preserved : goal.loop-preserved
-loop-preserved g c =
-    let first = c.args.self.now in
-    let old = c.loop.self in
-    let new = c.serve_once.new.self in
-    let inv = c.loop.invariant in
-    let done = c.in-Ok-serve_once.ensures in (
-      runs_then IsAnswer saved_bytes IsSaveable (λ j. IsCleanPair g.D.Disk j) (λ j bs. IsKeptPair g.D.Disk j bs) (kept_in first) (kept_in old) (kept_in new) inv.0 done.run,
-      subst (λ (config : TurnsConfig). ServesTo (doing g.D.Disk) config (g.R.Read.remaining c.args.reader.now) (g.R.Read.remaining c.serve_once.new.reader)
-          (g.W.Write.contents c.args.writer.now) (g.W.Write.contents c.serve_once.new.writer) (server_of first) (server_of new) c.serve_once.new.pipe) inv.2
-          (done.serves (g.R.Read.remaining c.args.reader.now) (g.W.Write.contents c.args.writer.now) (server_of first)
-          (subst (λ (config : TurnsConfig). ServesTo (doing g.D.Disk) config (g.R.Read.remaining c.args.reader.now) (g.R.Read.remaining c.loop.reader)
-          (g.W.Write.contents c.args.writer.now) (g.W.Write.contents c.loop.writer) (server_of first) (server_of old) c.loop.pipe) (sym inv.2) inv.1)),
-      done.config ∙ inv.2,
-    )
-
-pub returns-in-Err-clause-run : goal.returns-in-Err-clause-run
-returns-in-Err-clause-run g c = λ is.
-    let ended = c.serve_once.ensures.ended (c.in-Err.is ∙ ap (λ (f : Fault). Err f) is) in
-    subst (λ (l : Live g.row.D.Denot). RunGoesOn IsAnswer saved_bytes IsSaveable (λ j. IsCleanPair g.D.Disk j) (λ j bs. IsKeptPair g.D.Disk j bs) (kept_in c.args.self.now) (kept_in l))
-    (sym ended.0) c.loop.invariant.0
-
-pub returns-in-Err-clause-served : goal.returns-in-Err-clause-served
-returns-in-Err-clause-served g c = λ is.
-    let first = c.args.self.now in
-    let ended = c.serve_once.ensures.ended (c.in-Err.is ∙ ap (λ (f : Fault). Err f) is) in
-    let written : g.W.Write.contents c.serve_once.new.writer ≡ g.W.Write.contents c.loop.writer = ap g.W.Write.contents ended.1 in
-    subst (λ (l : Live g.row.D.Denot). HasServed (doing g.D.Disk) (turns_of first).config (g.R.Read.remaining c.args.reader.now) (g.R.Read.remaining c.serve_once.new.reader)
-    (g.W.Write.contents c.args.writer.now) (g.W.Write.contents c.serve_once.new.writer) (server_of first) (server_of l)) (sym ended.0)
-    (subst (λ (all : Option (List ℕ)). HasServed (doing g.D.Disk) (turns_of first).config (g.R.Read.remaining c.args.reader.now) (g.R.Read.remaining c.serve_once.new.reader)
-    (g.W.Write.contents c.args.writer.now) all (server_of first) (server_of c.loop.self)) (sym written)
-    (all_served (doing g.D.Disk) (turns_of first).config (g.R.Read.remaining c.args.reader.now) (g.R.Read.remaining c.loop.reader) (g.R.Read.remaining c.serve_once.new.reader)
-    (g.W.Write.contents c.args.writer.now) (g.W.Write.contents c.loop.writer) (server_of first) (server_of c.loop.self) c.loop.pipe
-    c.loop.invariant.1 ended.3 ended.2 ended.4))
+pub returns-clause-served : goal.returns-clause-served
+returns-clause-served g c = λ is.
+    c.run_on.ensures.served is (g.R.Read.remaining c.args.reader.now) (g.W.Write.contents c.args.writer.now) (server_of c.args.self.now)
+    (subst (λ (rest : List ℕ). ServesTo (doing g.D.Disk) (turns_of c.args.self.now).config (g.R.Read.remaining c.args.reader.now) (g.R.Read.remaining c.args.reader.now)
+    (g.W.Write.contents c.args.writer.now) (g.W.Write.contents c.args.writer.now) (server_of c.args.self.now) (server_of c.args.self.now) rest) (sym c.in-Ok.ensures)
+    (none_served (doing g.D.Disk) (turns_of c.args.self.now).config (g.R.Read.remaining c.args.reader.now) (g.W.Write.contents c.args.writer.now) (server_of c.args.self.now)))
