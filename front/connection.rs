@@ -182,6 +182,11 @@ impl Connection {
         self.doing == Doing::Lingers || self.doing == Doing::Reads && self.coming.what == READ
     }
 
+    /// Whether the core hasn't said yet that it may read: then it is idle in a moment, or has a request.
+    pub fn is_new(&self) -> bool {
+        self.doing == Doing::Waits && self.next.is_none()
+    }
+
     /// Whether the core knows of it.
     pub fn is_known(&self) -> bool {
         self.next != Some(CLOSE) && self.doing != Doing::Lingers
@@ -202,11 +207,12 @@ impl Connection {
         self.doing != Doing::Waits && (self.doing != Doing::Sends || self.next.is_some())
     }
 
-    /// What the kernel tells of it.
-    pub fn note(&mut self, readable: bool, writable: bool, hung_up: bool) {
+    /// What the kernel tells of it. One that broke goes with the order that the core owes it.
+    pub fn note(&mut self, readable: bool, writable: bool, hung_up: bool, broke: bool) {
         self.readable |= readable;
         self.writable |= writable;
         self.hung_up |= hung_up;
+        self.leaves |= broke;
     }
 
     /// The core gave an order for it: how long it was at that, and who waited.

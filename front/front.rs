@@ -4,7 +4,7 @@ use crate::connection::{Connection, Outcome, Times};
 use crate::core::{Core, PIECE, Part};
 use crate::files::Files;
 use crate::lists::Lists;
-use crate::poll::{Event, HUNG_UP, Poll, READABLE, WRITABLE};
+use crate::poll::{BROKE, Event, HUNG_UP, Poll, READABLE, WRITABLE};
 use crate::room;
 use crate::signals::HANG_UP;
 use crate::slots::{Place, Slots, origin_of};
@@ -204,7 +204,7 @@ impl Front {
             SIGNALS => self.do_as_signalled(),
             slot => {
                 if let Some(connection) = self.slots.get(slot as usize) {
-                    connection.note(is(READABLE), is(WRITABLE), is(HUNG_UP));
+                    connection.note(is(READABLE), is(WRITABLE), is(HUNG_UP), is(BROKE));
                     self.go_on(slot as usize);
                 }
             }
