@@ -91,7 +91,7 @@ enum Doing {
 pub enum Outcome {
     /// It waits: for the core, or for its client.
     Waits,
-    /// It would read, once the core has taken more reports.
+    /// It would read, once the core has taken more reports and others had a turn.
     Held,
     /// It would read, once the others had their time.
     Later,
@@ -425,20 +425,19 @@ impl Connection {
         }
     }
 
-    /// Reads what comes after the last bytes, which nobody wants, until the client has read them.
+    /// Reads what comes after the last bytes, which nobody wants, until the client has read them: a piece, and then others have a turn.
     fn linger(&mut self) -> Outcome {
-        let mut piece = [0; 4096];
-        while self.readable || self.hung_up {
-            match (&self.stream).read(&mut piece) {
-                Ok(count) if count > 0 => {}
-                Err(error) if error.kind() == ErrorKind::WouldBlock => {
-                    self.readable = false;
-                    return Outcome::Waits;
-                }
-                Err(error) if error.kind() == ErrorKind::Interrupted => {}
-                _ => return Outcome::Gone,
-            }
+        if !self.readable && !self.hung_up {
+            return Outcome::Waits;
         }
-        Outcome::Waits
+        match (&self.stream).read(&mut [0; PIECE]) {
+            Ok(count) if count > 0 => Outcome::Held,
+            Err(error) if error.kind() == ErrorKind::WouldBlock => {
+                self.readable = false;
+                Outcome::Waits
+            }
+            Err(error) if error.kind() == ErrorKind::Interrupted => Outcome::Held,
+            _ => Outcome::Gone,
+        }
     }
 }

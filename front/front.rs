@@ -66,7 +66,7 @@ pub struct Front {
     is_lost: bool,
     ready: Option<String>,
     times: Times,
-    /// The slots of connections that would read, once the core has taken more reports.
+    /// The slots of connections that would read, once the core has taken more reports and others had a turn.
     held: Vec<usize>,
     /// The slots of connections that would read, once the others had their time.
     later: Vec<usize>,
@@ -218,6 +218,7 @@ impl Front {
         };
         match connection.go_on(&mut self.core, self.times) {
             Outcome::Waits => {}
+            Outcome::Held if self.held.contains(&slot) => {}
             Outcome::Held => self.held.push(slot),
             Outcome::Later => self.later.push(slot),
             Outcome::Sent => self.core.report(slot, SENT, &[]),
