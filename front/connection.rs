@@ -91,7 +91,7 @@ enum Doing {
 pub enum Outcome {
     /// It waits: for the core, or for its client.
     Waits,
-    /// It would read, once the core has taken more reports.
+    /// It would read, once the core has taken more reports and others had a turn.
     Held,
     /// It would read, once the others had their time.
     Later,
@@ -182,6 +182,11 @@ impl Connection {
         self.doing == Doing::Lingers || self.doing == Doing::Reads && self.coming.what == READ
     }
 
+    /// Whether the core hasn't said yet that it may read: then it is idle in a moment, or has a request.
+    pub fn is_new(&self) -> bool {
+        self.doing == Doing::Waits && self.next.is_none()
+    }
+
     /// Whether the core knows of it.
     pub fn is_known(&self) -> bool {
         self.next != Some(CLOSE) && self.doing != Doing::Lingers
@@ -202,11 +207,12 @@ impl Connection {
         self.doing != Doing::Waits && (self.doing != Doing::Sends || self.next.is_some())
     }
 
-    /// What the kernel tells of it.
-    pub fn note(&mut self, readable: bool, writable: bool, hung_up: bool) {
+    /// What the kernel tells of it. One that broke goes with the order that the core owes it.
+    pub fn note(&mut self, readable: bool, writable: bool, hung_up: bool, broke: bool) {
         self.readable |= readable;
         self.writable |= writable;
         self.hung_up |= hung_up;
+        self.leaves |= broke;
     }
 
     /// The core gave an order for it: how long it was at that, and who waited.
@@ -419,20 +425,19 @@ impl Connection {
         }
     }
 
-    /// Reads what comes after the last bytes, which nobody wants, until the client has read them.
+    /// Reads what comes after the last bytes, which nobody wants, until the client has read them: a piece, and then others have a turn.
     fn linger(&mut self) -> Outcome {
-        let mut piece = [0; 4096];
-        while self.readable || self.hung_up {
-            match (&self.stream).read(&mut piece) {
-                Ok(count) if count > 0 => {}
-                Err(error) if error.kind() == ErrorKind::WouldBlock => {
-                    self.readable = false;
-                    return Outcome::Waits;
-                }
-                Err(error) if error.kind() == ErrorKind::Interrupted => {}
-                _ => return Outcome::Gone,
-            }
+        if !self.readable && !self.hung_up {
+            return Outcome::Waits;
         }
-        Outcome::Waits
+        match (&self.stream).read(&mut [0; PIECE]) {
+            Ok(count) if count > 0 => Outcome::Held,
+            Err(error) if error.kind() == ErrorKind::WouldBlock => {
+                self.readable = false;
+                Outcome::Waits
+            }
+            Err(error) if error.kind() == ErrorKind::Interrupted => Outcome::Held,
+            _ => Outcome::Gone,
+        }
     }
 }

@@ -4,7 +4,7 @@ use crate::connection::{Connection, Outcome, Times};
 use crate::core::{Core, PIECE, Part};
 use crate::files::Files;
 use crate::lists::Lists;
-use crate::poll::{Event, HUNG_UP, Poll, READABLE, WRITABLE};
+use crate::poll::{BROKE, Event, HUNG_UP, Poll, READABLE, WRITABLE};
 use crate::room;
 use crate::signals::HANG_UP;
 use crate::slots::{Place, Slots, origin_of};
@@ -66,7 +66,7 @@ pub struct Front {
     is_lost: bool,
     ready: Option<String>,
     times: Times,
-    /// The slots of connections that would read, once the core has taken more reports.
+    /// The slots of connections that would read, once the core has taken more reports and others had a turn.
     held: Vec<usize>,
     /// The slots of connections that would read, once the others had their time.
     later: Vec<usize>,
@@ -204,7 +204,7 @@ impl Front {
             SIGNALS => self.do_as_signalled(),
             slot => {
                 if let Some(connection) = self.slots.get(slot as usize) {
-                    connection.note(is(READABLE), is(WRITABLE), is(HUNG_UP));
+                    connection.note(is(READABLE), is(WRITABLE), is(HUNG_UP), is(BROKE));
                     self.go_on(slot as usize);
                 }
             }
@@ -218,6 +218,7 @@ impl Front {
         };
         match connection.go_on(&mut self.core, self.times) {
             Outcome::Waits => {}
+            Outcome::Held if self.held.contains(&slot) => {}
             Outcome::Held => self.held.push(slot),
             Outcome::Later => self.later.push(slot),
             Outcome::Sent => self.core.report(slot, SENT, &[]),

@@ -6,10 +6,11 @@ use std::io;
 use std::os::fd::{AsFd, AsRawFd, FromRawFd, OwnedFd};
 use std::time::Duration;
 
-/// What is told of a socket: it may have bytes to be read, or room for bytes; or its peer sends no more, or it failed.
+/// What is told of a socket: it may have bytes to be read, or room for bytes; its peer sends no more, or it broke; and that it broke.
 pub const READABLE: u32 = 0x1;
 pub const WRITABLE: u32 = 0x4;
-pub const HUNG_UP: u32 = 0x8 | 0x10 | 0x2000;
+pub const HUNG_UP: u32 = BROKE | 0x2000;
+pub const BROKE: u32 = 0x8 | 0x10;
 
 /// Only changes are told.
 const CHANGES: u32 = 1 << 31;

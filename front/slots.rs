@@ -19,9 +19,9 @@ pub enum Place {
     Free,
     /// The slot of a connection that is to go for it.
     InPlaceOf(usize),
-    /// Nobody may go, or somebody is about to: it waits.
+    /// Nobody may go, or somebody is about to, or is about to be idle: it waits.
     Later,
-    /// Its origin has too many, of which none is idle.
+    /// Its origin has too many, each with a request under way.
     Nowhere,
 }
 
@@ -81,28 +81,34 @@ impl Slots {
         waiting.min_by_key(|(_, connection)| connection.since()).map(|(slot, _)| slot)
     }
 
-    /// Who goes for a connection of this origin: what is idle longest; and where nothing is, what of the origin with most connections is
-    /// under way longest, if that has two more.
-    fn who_goes(&self, origin: IpAddr) -> Option<usize> {
-        self.longest(Connection::is_idle).or_else(|| {
-            let (crowd, count) = self.counts.iter().max_by_key(|(_, count)| **count)?;
-            let is_larger = *count > self.count_of(origin) + 1;
-            self.longest(|connection| is_larger && connection.origin == *crowd)
-        })
+    /// Who goes for a connection of this origin where nothing is idle: what of the origin with most connections is under way longest, if that
+    /// has two more.
+    fn of_crowd(&self, origin: IpAddr) -> Option<usize> {
+        let (crowd, count) = self.counts.iter().max_by_key(|(_, count)| **count)?;
+        let is_larger = *count > self.count_of(origin) + 1;
+        self.longest(|connection| is_larger && connection.origin == *crowd)
     }
 
-    /// Where a connection of this origin may come to.
+    /// Where a connection of this origin may come to. What is idle longest goes for it.
     pub fn place_for(&self, origin: IpAddr) -> Place {
         let is_crowd = self.count_of(origin) >= self.most;
         if !is_crowd && !self.free.is_empty() {
             return Place::Free;
         }
-        if self.all().any(|(_, other)| other.leaves() && (!is_crowd || other.origin == origin)) {
+        let may_go = |other: &Connection| !is_crowd || other.origin == origin;
+        let is_any = |holds: fn(&Connection) -> bool| self.all().any(|(_, other)| may_go(other) && holds(other));
+        if is_any(Connection::leaves) {
+            return Place::Later;
+        }
+        if let Some(slot) = self.longest(|other| may_go(other) && other.is_idle()) {
+            return Place::InPlaceOf(slot);
+        }
+        if is_any(Connection::is_new) {
             return Place::Later;
         }
         match is_crowd {
-            true => self.longest(|other| other.is_idle() && other.origin == origin).map_or(Place::Nowhere, Place::InPlaceOf),
-            false => self.who_goes(origin).map_or(Place::Later, Place::InPlaceOf),
+            true => Place::Nowhere,
+            false => self.of_crowd(origin).map_or(Place::Later, Place::InPlaceOf),
         }
     }
 }
