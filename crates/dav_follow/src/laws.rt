@@ -6,5 +6,6 @@ use crate::replays::Replays;
 
 /// Whatever its turns hear and answer, nothing is left to be kept.
 pub fn turns_keep_nothing<K: Replays>()
-    ensures { TurnsKeepNothing K.judges K.answers K.greeted K.listed K.placed K.passed K.is_at_rest }
+    ensures { TurnsKeepNothing K.judges K.answers K.greeted K.listed K.placed K.passed
+        K.is_at_rest }
 {}
