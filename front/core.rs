@@ -2,28 +2,20 @@
 //!
 //! A report is `slot u32, kind u8, length u32, seconds u64, date u64, bytes`, an order `slot u32, next u8, length u32, bytes`; numbers
 //! are little-endian. `seconds` are those since the front began, by a clock that nobody sets; `date` those since 1970.
-use crate::clock::{Clock, date};
-use std::io::{self, ErrorKind, Read, Write};
+use crate::clock::Clock;
+use crate::reports::{MOST_WAITING, Reports};
+use std::io::{self, ErrorKind, Read};
 use std::net::Shutdown;
 use std::os::fd::OwnedFd;
 use std::os::unix::net::UnixStream;
 use std::process::{Child, Command, Stdio};
 use std::time::{Duration, Instant};
 
-/// The most bytes of a report.
-pub const PIECE: usize = 65_536;
-
 /// The kinds of reports for which an order comes: a connection, bytes, and that bytes were sent.
 const ASKING: [u8; 3] = [1, 2, 3];
 
-/// The bytes of a report that come before its own.
-const HEAD: usize = 25;
-
 /// The bytes of an order that come before its own.
 const ORDER_HEAD: usize = 9;
-
-/// No client is read while so many bytes of reports wait for the core.
-const MOST_WAITING: usize = 1 << 20;
 
 /// A core that owes nothing for so long is free.
 const FREE: Duration = Duration::from_millis(1);
@@ -31,9 +23,9 @@ const FREE: Duration = Duration::from_millis(1);
 /// So much of the orders is read at once.
 const ROOM: usize = 1 << 18;
 
-/// What is read of the orders: that one begins, of a slot, with what to do after it; bytes of it; or its end.
+/// What is read of the orders: that one begins, of a slot, with what to do after it and so many bytes; bytes of it; or its end.
 pub enum Part<'a> {
-    Begin(usize, u8),
+    Begin(usize, u8, usize),
     Bytes(usize, &'a [u8]),
     End(usize, u8),
 }
@@ -48,10 +40,7 @@ struct Begun {
 /// The core's input and output, one socket for both.
 pub struct Core {
     socket: UnixStream,
-    /// Reports that aren't written yet, from `written` to `ended`. The room behind stays as it is, so that it isn't cleared each time.
-    reports: Vec<u8>,
-    written: usize,
-    ended: usize,
+    reports: Reports,
     /// Orders that were read, from `used` to `filled`.
     orders: Vec<u8>,
     used: usize,
@@ -78,13 +67,10 @@ impl Core {
         socket.set_nonblocking(true)?;
         command.stdin(Stdio::from(OwnedFd::from(of_core.try_clone()?))).stdout(Stdio::from(OwnedFd::from(of_core)));
         let child = command.spawn()?;
-        let (reports, orders) = (vec![0; 2 * PIECE], vec![0; ROOM]);
         let core = Core {
             socket,
-            reports,
-            written: 0,
-            ended: 0,
-            orders,
+            reports: Reports::new(),
+            orders: vec![0; ROOM],
             used: 0,
             filled: 0,
             begun: None,
@@ -122,7 +108,12 @@ impl Core {
 
     /// Whether clients may be read.
     pub fn has_room(&self) -> bool {
-        self.ended - self.written < MOST_WAITING
+        self.reports.has_room()
+    }
+
+    /// Whether it may be told that time passed: so it is, also where clients aren't read, but where it took nothing for very long.
+    pub fn has_room_for_time(&self) -> bool {
+        self.reports.waiting() < 2 * MOST_WAITING
     }
 
     /// How many reports asked for an order so far.
@@ -172,27 +163,14 @@ impl Core {
         (self.took, self.since) = (now - self.since, now);
     }
 
-    /// Room for the bytes of a report, behind that for its head.
+    /// Room for the bytes of a report.
     pub fn room(&mut self) -> &mut [u8] {
-        if self.written == self.ended {
-            (self.written, self.ended) = (0, 0);
-        }
-        let end = self.ended + HEAD + PIECE;
-        if self.reports.len() < end {
-            self.reports.resize(2 * end, 0);
-        }
-        &mut self.reports[self.ended + HEAD..end]
+        self.reports.room()
     }
 
     /// Reports so many bytes that were put into the room.
     pub fn report_room(&mut self, slot: usize, kind: u8, count: usize) {
-        let head = &mut self.reports[self.ended..self.ended + HEAD];
-        head[..4].copy_from_slice(&(slot as u32).to_le_bytes());
-        head[4] = kind;
-        head[5..9].copy_from_slice(&(count as u32).to_le_bytes());
-        head[9..17].copy_from_slice(&self.clock.seconds().to_le_bytes());
-        head[17..].copy_from_slice(&date().to_le_bytes());
-        self.ended += HEAD + count;
+        self.reports.add(slot, kind, count, &self.clock);
         if ASKING.contains(&kind) {
             self.ask();
         }
@@ -206,20 +184,12 @@ impl Core {
 
     /// Writes as many reports as the core takes now.
     pub fn flush(&mut self) -> io::Result<()> {
-        while self.written < self.ended {
-            match (&self.socket).write(&self.reports[self.written..self.ended]) {
-                Ok(count) => self.written += count,
-                Err(error) if error.kind() == ErrorKind::WouldBlock => return Ok(()),
-                Err(error) if error.kind() == ErrorKind::Interrupted => {}
-                Err(error) => return Err(error),
-            }
-        }
-        Ok(())
+        self.reports.write_to(&self.socket)
     }
 
     /// Ends the core's input, once all reports are written: it answers what it has, and ends.
     pub fn end_input(&self) {
-        if self.written == self.ended {
+        if self.reports.waiting() == 0 {
             let _ = self.socket.shutdown(Shutdown::Write);
         }
     }
@@ -252,11 +222,11 @@ impl Core {
         let Some(begun) = &mut self.begun else {
             let (head, _) = rest.split_at_checked(ORDER_HEAD)?;
             let number = |at: usize| u32::from_le_bytes([head[at], head[at + 1], head[at + 2], head[at + 3]]) as usize;
-            let (slot, next) = (number(0), head[4]);
-            self.begun = Some(Begun { slot, next, left: number(5) });
+            let (slot, next, length) = (number(0), head[4], number(5));
+            self.begun = Some(Begun { slot, next, left: length });
             self.used += ORDER_HEAD;
             self.answer();
-            return Some(Part::Begin(slot, next));
+            return Some(Part::Begin(slot, next, length));
         };
         let slot = begun.slot;
         if begun.left == 0 {

@@ -1,16 +1,24 @@
 //! The front's one thread: what it is told by the kernel, by the core and by signals, and what it does then.
-use crate::{FAILED, Settings, bind, fail};
-use crate::connection::{Connection, Outcome, Times};
-use crate::core::{Core, PIECE, Part};
+mod asking;
+mod upkeep;
+
+use crate::coming::Times;
+use crate::connection::{Connection, Outcome};
+use crate::core::{Core, Part};
+use crate::entrance::{Comer, Entrance};
 use crate::files::Files;
 use crate::lists::Lists;
 use crate::poll::{BROKE, Event, HUNG_UP, Poll, READABLE, WRITABLE};
-use crate::room;
-use crate::signals::HANG_UP;
-use crate::slots::{Place, Slots, origin_of};
-use std::io::{self, ErrorKind, Read};
-use std::net::{IpAddr, TcpListener, TcpStream};
+use crate::room::Room;
+use crate::slots::{Place, Slots};
+use crate::turns::Turns;
+use crate::unsent::Blocks;
+use crate::work::Orders;
+use crate::{FAILED, NO_MEMORY, Settings};
+use std::collections::VecDeque;
+use std::io;
 use std::os::unix::net::UnixStream;
+use std::os::unix::process::ExitStatusExt;
 use std::process::Child;
 use std::time::{Duration, Instant};
 
@@ -20,56 +28,61 @@ const GOT: u8 = 2;
 const SENT: u8 = 3;
 const GONE: u8 = 4;
 
-/// What is reported besides connections.
+/// What is reported besides connections, but for what `upkeep` does.
 const HELLO: u8 = 0;
-const TICK: u8 = 5;
-const USERS: u8 = 6;
-const ROOM: u8 = 7;
 
 /// The keys of what isn't in a slot.
 const LISTENER: u64 = 1 << 32;
 const CORE: u64 = LISTENER + 1;
 const SIGNALS: u64 = LISTENER + 2;
 
+/// The key of the first place of a proxy's connection whose header hasn't come.
+const ARRIVALS: u64 = 1 << 33;
+
+/// So many are let in before others have a turn.
+const LET_IN: usize = 64;
+
+/// So many drop a piece of what comes before others have a turn.
+const LINGERING: usize = 8;
+
 const SECOND: Duration = Duration::from_secs(1);
 
 /// How often it is looked whose time has passed.
 const MOMENT: Duration = Duration::from_millis(50);
 
-/// So often it is looked whether those may read that have to wait for others.
+/// So often it is looked whether those may ask that have to wait for others.
 const TURN: Duration = Duration::from_millis(1);
 
 /// So long the last replies have to be sent, once the core has ended.
 const LAST: Duration = Duration::from_secs(2);
-
-/// After so many seconds the room that is left is reported again, and the files of the state are looked at.
-const MEASURED: u64 = 5;
 
 pub struct Front {
     core: Core,
     child: Child,
     poll: Poll,
     slots: Slots,
-    address: String,
-    /// None until the core answers, where its state is waited for.
-    listener: Option<TcpListener>,
-    /// Whether somebody may be waiting to be let in.
-    comes: bool,
-    /// Who waits for a slot.
-    waiting: Option<(TcpStream, IpAddr)>,
+    entrance: Entrance,
+    /// Whether more may come in at once.
+    is_pressed: bool,
     signals: UnixStream,
     lists: Option<Lists>,
     folder: Option<String>,
+    room: Room,
     /// The files of the state, once the core answers, where their folder is told.
     files: Option<Files>,
     /// Whether a file of the state is another one by now, or can't be asked: the core was ended.
     is_lost: bool,
     ready: Option<String>,
     times: Times,
-    /// The slots of connections that would read, once the core has taken more reports and others had a turn.
-    held: Vec<usize>,
-    /// The slots of connections that would read, once the others had their time.
+    /// The memory for what clients haven't taken.
+    blocks: Blocks,
+    /// Who waits for a turn, and what the core did for those who had theirs.
+    turns: Turns,
+    orders: Orders,
+    /// The slots of connections that would ask, once the others had their time.
     later: Vec<usize>,
+    /// The slots of connections that drop what comes, once others had a turn.
+    lingering: VecDeque<usize>,
     /// Whether the core has answered: then it has read its state.
     is_ready: bool,
     is_ending: bool,
@@ -81,33 +94,32 @@ pub struct Front {
 }
 
 impl Front {
-    pub fn new(core: Core, child: Child, listener: Option<TcpListener>, signals: UnixStream, lists: Option<Lists>, settings: &Settings) -> io::Result<Front> {
+    pub fn new(core: Core, child: Child, entrance: Entrance, signals: UnixStream, settings: &Settings) -> io::Result<Front> {
         let poll = Poll::new()?;
         signals.set_nonblocking(true)?;
         poll.add(core.socket(), CORE)?;
         poll.add(&signals, SIGNALS)?;
-        if let Some(listener) = &listener {
-            listener.set_nonblocking(true)?;
-            poll.add(listener, LISTENER)?;
-        }
+        let process = child.id();
         Ok(Front {
             core,
             child,
             poll,
             slots: Slots::new(settings.per_address),
-            address: settings.address.clone(),
-            listener,
-            comes: true,
-            waiting: None,
+            entrance,
+            is_pressed: false,
             signals,
-            lists,
+            lists: settings.lists.clone().map(Lists::new),
             folder: settings.folder.clone(),
+            room: Room::new(settings.folder.clone()),
             files: None,
             is_lost: false,
             ready: settings.ready.clone(),
             times: settings.times,
-            held: Vec::new(),
+            blocks: Blocks::new(settings.unsent),
+            turns: Turns::default(),
+            orders: Orders::new(process),
             later: Vec::new(),
+            lingering: VecDeque::new(),
             is_ready: false,
             is_ending: false,
             second: Instant::now(),
@@ -124,7 +136,7 @@ impl Front {
     /// Goes on with another core.
     pub fn go_on_with(&mut self, core: Core, child: Child) -> io::Result<()> {
         self.poll.add(core.socket(), CORE)?;
-        (self.core, self.child) = (core, child);
+        (self.core, self.orders, self.child) = (core, Orders::new(child.id()), child);
         Ok(())
     }
 
@@ -143,12 +155,11 @@ impl Front {
     /// Tells the core that it is there, with random bytes, and asks whether the core answers, as a connection that comes and goes.
     pub fn greet(&mut self, random: &[u8]) {
         self.core.report(0, HELLO, random);
-        self.report_room();
         self.core.report(0, OPENED, &[]);
     }
 
     /// Serves until the core ends; its status.
-    pub fn serve(&mut self) -> Option<i32> {
+    pub fn serve(&mut self) -> i32 {
         let mut events = Vec::new();
         loop {
             let _ = self.core.flush(); // where the core has ended, the end of its orders tells
@@ -157,17 +168,18 @@ impl Front {
             }
             events.clear();
             events.extend_from_slice(self.poll.wait(self.rest()));
+            self.go_on_with_later();
             for event in &events {
                 self.hear(*event);
             }
             if !self.take_orders() {
-                let status = self.child.wait().ok().and_then(|status| status.code());
-                return if self.is_lost { Some(FAILED) } else { status };
+                let status = status_of(&mut self.child);
+                return if self.is_lost { FAILED } else { status };
             }
             if self.is_ready {
-                self.go_on_with_held();
-                self.go_on_with_later();
-                self.accept();
+                self.go_on_with_lingering();
+                self.give_turns();
+                self.let_in();
                 self.pass_time();
             }
         }
@@ -189,7 +201,7 @@ impl Front {
         if !self.is_ready {
             return SECOND;
         }
-        if !self.held.is_empty() && self.core.has_room() {
+        if self.is_pressed || !self.lingering.is_empty() || self.may_give_turns() {
             return Duration::ZERO;
         }
         let rest = self.second.min(self.moment).saturating_duration_since(Instant::now());
@@ -198,31 +210,32 @@ impl Front {
 
     fn hear(&mut self, event: Event) {
         let is = |what: u32| event.what & what != 0;
-        match event.key {
-            LISTENER => self.comes = true,
+        let key = event.key;
+        match key {
+            LISTENER => self.entrance.note(),
             CORE => self.core.note(is(READABLE), is(HUNG_UP)),
             SIGNALS => self.do_as_signalled(),
-            slot => {
-                if let Some(connection) = self.slots.get(slot as usize) {
+            ARRIVALS.. => self.entrance.note_arrival((key - ARRIVALS) as usize, is(HUNG_UP)),
+            _ => {
+                if let Some(connection) = self.slots.get(key as usize) {
                     connection.note(is(READABLE), is(WRITABLE), is(HUNG_UP), is(BROKE));
-                    self.go_on(slot as usize);
+                    self.go_on(key as usize);
                 }
             }
         }
     }
 
-    /// Lets a connection go on as far as it can, and reports what is to be reported.
+    /// Lets a connection go on as far as its client lets it.
     fn go_on(&mut self, slot: usize) {
         let Some(connection) = self.slots.get(slot) else {
             return;
         };
-        match connection.go_on(&mut self.core, self.times) {
+        match connection.go_on(self.times) {
             Outcome::Waits => {}
-            Outcome::Held if self.held.contains(&slot) => {}
-            Outcome::Held => self.held.push(slot),
-            Outcome::Later => self.later.push(slot),
-            Outcome::Sent => self.core.report(slot, SENT, &[]),
-            Outcome::Got(count) => self.core.report_room(slot, GOT, count),
+            Outcome::Asks if connection.queue() => self.turns.add(connection.origin, slot),
+            Outcome::Asks => {}
+            Outcome::Lingers if self.lingering.contains(&slot) => {}
+            Outcome::Lingers => self.lingering.push_back(slot),
             Outcome::Gone => self.end(slot),
         }
     }
@@ -234,18 +247,11 @@ impl Front {
         }
     }
 
-    fn go_on_with_held(&mut self) {
-        if self.core.has_room() {
-            for slot in std::mem::take(&mut self.held) {
+    fn go_on_with_lingering(&mut self) {
+        for _ in 0..LINGERING.min(self.lingering.len()) {
+            if let Some(slot) = self.lingering.pop_front() {
                 self.go_on(slot);
             }
-        }
-    }
-
-    /// Who waits longest goes first.
-    fn go_on_with_later(&mut self) {
-        for slot in std::mem::take(&mut self.later) {
-            self.go_on(slot);
         }
     }
 
@@ -257,7 +263,7 @@ impl Front {
             }
             while let Some(part) = self.core.part() {
                 match part {
-                    Part::Begin(slot, next) => self.begin_order(slot, next),
+                    Part::Begin(slot, next, length) => self.begin_order(slot, next, length),
                     Part::Bytes(slot, bytes) => {
                         if let Some(connection) = self.slots.get(slot) {
                             connection.give(bytes, self.times);
@@ -266,16 +272,9 @@ impl Front {
                     Part::End(slot, next) => self.order(slot, next),
                 }
             }
+            self.measure_orders();
         }
         true
-    }
-
-    /// An order begins: where its connection has little left to send, the core goes on with the next bytes at once.
-    fn begin_order(&mut self, slot: usize, next: u8) {
-        let asked = self.core.asked() + 1;
-        if self.slots.get(slot).is_some_and(|connection| connection.begin(next, asked)) {
-            self.core.report(slot, SENT, &[]);
-        }
     }
 
     fn order(&mut self, slot: usize, next: u8) {
@@ -283,8 +282,7 @@ impl Front {
             self.core.report(slot, GONE, &[]);
             self.begin();
         } else if let Some(connection) = self.slots.get(slot) {
-            connection.note_order(&self.core);
-            if connection.had_long() {
+            if connection.note_order(&self.core) {
                 self.core.note_long();
             }
             connection.order(next, self.times);
@@ -295,141 +293,73 @@ impl Front {
     /// The core answers: clients may come.
     fn begin(&mut self) {
         self.is_ready = true;
-        (self.second, self.moment) = (Instant::now(), Instant::now());
+        (self.second, self.moment) = (Instant::now(), Instant::now()); // so that its room is told before anything is asked
         self.files = self.folder.clone().map(Files::new);
-        let (poll, address) = (&self.poll, &self.address);
-        let listener = self.listener.get_or_insert_with(|| listen(poll, address));
-        if let (Some(text), Ok(address), None) = (&self.ready, listener.local_addr(), std::env::var_os("FRONT_BEGUN")) {
-            eprintln!("{}", text.replace("{port}", &address.port().to_string()));
+        let port = self.entrance.open(&self.poll, LISTENER);
+        if let (Some(text), None) = (&self.ready, std::env::var_os("FRONT_BEGUN")) {
+            eprintln!("{}", text.replace("{port}", &port.to_string()));
         }
     }
 
-    /// Lets in who waits, as long as there are slots.
-    fn accept(&mut self) {
-        if let Some((stream, origin)) = self.waiting.take() {
-            self.waiting = self.place(stream, origin);
-        }
-        while let (Some(listener), true, None) = (&self.listener, self.comes, &self.waiting) {
-            match listener.accept() {
-                Ok((stream, peer)) => self.waiting = self.place(stream, origin_of(peer.ip())),
-                Err(error) if error.kind() == ErrorKind::WouldBlock => self.comes = false,
-                Err(_) => return, // there is no more room for sockets: it is tried again in a moment
+    /// Lets in who comes, as long as there are slots; some of them, and then others have a turn.
+    fn let_in(&mut self) {
+        self.is_pressed = false;
+        for _ in 0..LET_IN {
+            let Some(comer) = self.entrance.next(&self.poll, ARRIVALS) else {
+                return;
+            };
+            if let Some(comer) = self.place(comer) {
+                return self.entrance.keep(comer);
             }
         }
+        self.is_pressed = true;
     }
 
     /// Gives a connection a slot; others may have to go for it. It is given back where it has to wait; one whose origin has too many is closed
     /// at once.
-    fn place(&mut self, stream: TcpStream, origin: IpAddr) -> Option<(TcpStream, IpAddr)> {
+    fn place(&mut self, comer: Comer) -> Option<Comer> {
         loop {
-            match self.slots.place_for(origin) {
+            match self.slots.place_for(comer.origin) {
                 Place::Free => {
-                    self.open(stream, origin);
+                    self.open(comer);
                     return None;
                 }
-                Place::InPlaceOf(slot) => {
-                    if self.slots.get(slot).is_some_and(|other| other.leave()) {
-                        self.end(slot);
-                    }
-                }
-                Place::Later => return Some((stream, origin)),
+                Place::InPlaceOf(slot) => self.close(slot),
+                Place::Later => return Some(comer),
                 Place::Nowhere => return None,
             }
         }
     }
 
-    fn open(&mut self, stream: TcpStream, origin: IpAddr) {
-        let address = stream.peer_addr().map_or(String::new(), |address| address.ip().to_string());
-        let Ok(connection) = Connection::new(stream, origin) else {
+    /// A connection has to go: at once, or with the order that the core owes it.
+    fn close(&mut self, slot: usize) {
+        if self.slots.get(slot).is_some_and(|connection| connection.leave()) {
+            self.end(slot);
+        }
+    }
+
+    fn open(&mut self, comer: Comer) {
+        let Ok(connection) = Connection::new(comer.stream, comer.origin, &self.blocks) else {
             return;
         };
         if let Some(slot) = self.slots.put(connection) {
-            let is_added = self.slots.get(slot).is_some_and(|connection| self.poll.add(connection.stream(), slot as u64).is_ok());
-            match is_added {
-                true => self.core.report(slot, OPENED, address.as_bytes()),
+            let tells = if comer.is_passed_on { Poll::change } else { Poll::add };
+            let is_told = self.slots.get(slot).is_some_and(|connection| tells(&self.poll, connection.stream(), slot as u64).is_ok());
+            match is_told {
+                true => self.core.report(slot, OPENED, comer.address.to_string().as_bytes()),
                 false => drop(self.slots.take(slot)),
             }
         }
     }
-
-    /// Ends the connections whose clients have no more time, and sees when the next has none.
-    fn end_late(&mut self, now: Instant) {
-        let ends = self.slots.all().filter_map(|(slot, connection)| Some((slot, connection.end()?)));
-        let (late, others): (Vec<_>, Vec<_>) = ends.partition(|(_, end)| *end <= now);
-        let next = others.iter().map(|(_, end)| *end).min().unwrap_or(now + SECOND);
-        self.moment = next.clamp(now + MOMENT, now + SECOND);
-        for (slot, _) in late {
-            if self.slots.get(slot).is_some_and(|connection| connection.leave()) {
-                self.end(slot);
-            }
-        }
-    }
-
-    /// Tells the core that a second passed, and ends those whose clients have no more time.
-    fn pass_time(&mut self) {
-        let now = Instant::now();
-        if now >= self.moment {
-            self.end_late(now);
-        }
-        if now >= self.second {
-            self.second = now + SECOND;
-            self.core.report(0, TICK, &[]);
-            self.core.look();
-            let changed = self.lists.as_mut().and_then(Lists::changed);
-            self.report_lists(changed);
-            self.seconds += 1;
-            if self.seconds.is_multiple_of(MEASURED) {
-                self.report_room();
-                self.look_at_files();
-            }
-        }
-    }
-
-    /// Reports how many bytes the core can still store.
-    fn report_room(&mut self) {
-        if let Some(folder) = &self.folder {
-            self.core.report(0, ROOM, &room::left(folder, self.child.id()).to_le_bytes());
-        }
-    }
-
-    /// Ends the core at once where a file of the state isn't at its name any more: what it answered is kept in a file that the next start
-    /// doesn't see.
-    fn look_at_files(&mut self) {
-        if let Some(file) = self.files.as_ref().and_then(Files::lost) {
-            eprintln!("serve: {file} isn't the file that was opened: the server ends");
-            self.is_lost = true;
-            let _ = self.child.kill();
-        }
-    }
-
-    /// Does what the signals ask that came.
-    fn do_as_signalled(&mut self) {
-        let mut signal = [0];
-        while (&self.signals).read(&mut signal).is_ok_and(|count| count > 0) {
-            if i32::from(signal[0]) == HANG_UP {
-                let read = self.lists.as_mut().map(Lists::read);
-                self.report_lists(read);
-            } else {
-                self.is_ending = true;
-            }
-        }
-    }
-
-    /// Reports users and rules that were read, or says why they can't be.
-    fn report_lists(&mut self, read: Option<Result<Vec<u8>, String>>) {
-        match read {
-            Some(Ok(text)) if text.len() <= PIECE => self.core.report(0, USERS, &text),
-            Some(Ok(_)) => eprintln!("serve: users and access have more than {PIECE} bytes; they are as they were"),
-            Some(Err(why)) => eprintln!("serve: {why}; users and access are as they were"),
-            None => {}
-        }
-    }
 }
 
-/// Listens at an address, and has it told of who comes.
-fn listen(poll: &Poll, address: &str) -> TcpListener {
-    let listener = bind(address);
-    let added = listener.set_nonblocking(true).and_then(|()| poll.add(&listener, LISTENER));
-    added.unwrap_or_else(|error| fail(address, error));
-    listener
+/// The status of a core that ended. One that a signal ended counts as one that ran out of memory: its stack couldn't grow, or the machine had no more.
+fn status_of(child: &mut Child) -> i32 {
+    let Ok(status) = child.wait() else {
+        return NO_MEMORY;
+    };
+    if let Some(signal) = status.signal() {
+        eprintln!("serve: the core was ended by signal {signal}");
+    }
+    status.code().unwrap_or(NO_MEMORY)
 }

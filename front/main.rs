@@ -2,43 +2,52 @@
 //!
 //! Each connection has a slot. The core answers each report but GONE, TICK, HELLO, USERS and ROOM with one order: bytes to write, and what
 //! to do then. The front carries it out and reports once. So at most one message of a connection is under way in each direction, and a
-//! client that doesn't read stops only itself. One thread does all of it, with what the kernel tells of the sockets.
+//! client that doesn't read stops only itself. Who asks the core waits for his turn, by his address and by the work that the core had for it. One thread
+//! does all of it, with what the kernel tells of the sockets.
+//!
+//! What waits is bounded: reports by their count of bytes, replies that clients haven't taken by a number that is told (`--unsent`).
 //!
 //! SIGTERM and Ctrl-C end the core's input: it answers what it has, and ends; then the front does. SIGHUP reports the users and the rules
 //! of access again, and so does a change of their files.
 #![deny(unsafe_code)]
 
+mod arrivals;
 mod clock;
+mod coming;
 mod connection;
 mod core;
+mod entrance;
 mod files;
 mod front;
 mod lists;
+mod long;
 mod poll;
+mod proxy;
+mod reports;
 mod room;
 mod signals;
 mod slots;
+mod sockets;
+mod spent;
+mod turns;
+mod unsent;
+mod work;
 
 use clock::{Clock, date};
-use connection::Times;
+use coming::Times;
+use entrance::Entrance;
 use front::Front;
-use lists::Lists;
+use proxy::Proxies;
 use signals::{HANG_UP, INTERRUPT, Signals, TERMINATE};
 use std::fs::File;
-use std::io::{self, ErrorKind, Read, Write};
-use std::net::TcpListener;
+use std::io::{self, Read, Write};
 use std::os::unix::net::UnixStream;
 use std::os::unix::process::CommandExt;
 use std::process::{Child, Command, exit};
 use std::thread;
-use std::time::{Duration, Instant};
+use std::time::Duration;
 
-const MOMENT: Duration = Duration::from_millis(20);
-
-/// So long an address is waited for that another server is letting go.
-const FREED: Duration = Duration::from_secs(3);
-
-/// The status of a core that ran out of memory, of one whose disk failed, and of one whose state another process has.
+/// The status of a core that ran out of memory or was ended by a signal, of one whose disk failed, and of one whose state another process has.
 const NO_MEMORY: i32 = 3;
 const FAILED: i32 = 5;
 const IN_USE: i32 = 6;
@@ -48,6 +57,10 @@ struct Settings {
     times: Times,
     /// The most connections of one address.
     per_address: usize,
+    /// The most bytes of replies that clients haven't taken.
+    unsent: usize,
+    /// Whose connections begin with a header that tells whose they are.
+    proxies: Proxies,
     /// The folder of the users and the rules, which are reported where they change.
     lists: Option<String>,
     /// The folder on whose disk the state is, of which the room is reported.
@@ -64,24 +77,23 @@ struct Settings {
 fn main() {
     let signals = Signals::block(&[HANG_UP, INTERRUPT, TERMINATE]);
     let settings = read_settings();
-    let lists = settings.lists.clone().map(Lists::new);
     poll::raise_open_files();
-    let listener = settings.wait.is_none().then(|| bind(&settings.address));
+    let entrance = Entrance::new(&settings.address, settings.wait.is_none(), settings.proxies.clone());
     let (core, child) = start(&settings);
     let (heard, mut hears) = UnixStream::pair().unwrap_or_else(|error| fail("the front", error));
     thread::spawn(move || while hears.write_all(&[signals.next() as u8]).is_ok() {});
-    let mut front = Front::new(core, child, listener, heard, lists, &settings).unwrap_or_else(|error| fail("the front", error));
+    let mut front = Front::new(core, child, entrance, heard, &settings).unwrap_or_else(|error| fail("the front", error));
     front.greet(&random());
     let mut status = front.serve();
-    if let (Some(IN_USE), Some(text)) = (status, &settings.wait) {
+    if let (IN_USE, Some(text)) = (status, &settings.wait) {
         eprintln!("{text}");
         status = wait(&mut front, &settings);
     }
-    if status == Some(NO_MEMORY) && !front.is_ending() {
+    if status == NO_MEMORY && !front.is_ending() {
         begin_again();
     }
     front.send_last();
-    exit(status.unwrap_or(75));
+    exit(status);
 }
 
 /// Starts the core.
@@ -93,17 +105,17 @@ fn start(settings: &Settings) -> (core::Core, Child) {
 }
 
 /// Starts the core again, a second after it ended, until its state isn't in use; the status of the one that served, or of the end.
-fn wait(front: &mut Front, settings: &Settings) -> Option<i32> {
+fn wait(front: &mut Front, settings: &Settings) -> i32 {
     while front.pause() {
         let (core, child) = start(settings);
         front.go_on_with(core, child).unwrap_or_else(|error| fail("the front", error));
         front.greet(&random());
         let status = front.serve();
-        if status != Some(IN_USE) {
+        if status != IN_USE {
             return status;
         }
     }
-    Some(0)
+    0
 }
 
 fn random() -> [u8; 16] {
@@ -117,6 +129,8 @@ fn read_settings() -> Settings {
     let mut settings = Settings {
         times: Times { idle: Duration::from_secs(75), piece: Duration::from_secs(60) },
         per_address: 128,
+        unsent: 128 << 20,
+        proxies: Proxies::default(),
         lists: None,
         folder: None,
         ready: None,
@@ -132,6 +146,9 @@ fn read_settings() -> Settings {
             "--idle" => settings.times.idle = Duration::from_secs(number(&value)),
             "--piece-time" => settings.times.piece = Duration::from_secs(number(&value)),
             "--per-address" => settings.per_address = number(&value) as usize,
+            "--unsent" => settings.unsent = number(&value) as usize,
+            "--proxy" if settings.proxies.add(&value) => {}
+            "--proxy" => fail("--proxy", io::Error::other(format!("'{value}' is neither an address nor loopback"))),
             "--lists" => settings.lists = Some(value),
             "--room" => settings.folder = Some(value),
             "--ready" => settings.ready = Some(value),
@@ -149,18 +166,6 @@ fn read_settings() -> Settings {
 /// The number of a text, which isn't 0.
 fn number(text: &str) -> u64 {
     text.parse().ok().filter(|number| *number > 0).unwrap_or_else(|| usage())
-}
-
-/// Listens at an address. One that is in use is tried again for a while: another server may be letting it go.
-fn bind(address: &str) -> TcpListener {
-    let begun = Instant::now();
-    loop {
-        match TcpListener::bind(address) {
-            Ok(listener) => return listener,
-            Err(error) if error.kind() == ErrorKind::AddrInUse && begun.elapsed() < FREED => thread::sleep(MOMENT),
-            Err(error) => fail(address, error),
-        }
-    }
 }
 
 /// Begins again in this process's place after the core ran out of memory, at most three times a minute.
@@ -185,7 +190,7 @@ fn begin_again() -> ! {
 }
 
 fn usage() -> ! {
-    eprintln!("usage: front [--idle SECONDS] [--piece-time SECONDS] [--per-address COUNT] [--lists FOLDER] [--room FOLDER] [--ready TEXT] [--wait TEXT] ADDRESS:PORT PROGRAM [ARGUMENT..]");
+    eprintln!("usage: front [--idle SECONDS] [--piece-time SECONDS] [--per-address COUNT] [--unsent BYTES] [--proxy ADDRESS|loopback].. [--lists FOLDER] [--room FOLDER] [--ready TEXT] [--wait TEXT] ADDRESS:PORT PROGRAM [ARGUMENT..]");
     exit(64)
 }
 

@@ -16,6 +16,7 @@ pub const BROKE: u32 = 0x8 | 0x10;
 const CHANGES: u32 = 1 << 31;
 const CLOSE_ON_EXEC: c_int = 0o2_000_000;
 const ADD: c_int = 1;
+const CHANGE: c_int = 3;
 const OPEN_FILES: c_int = 7;
 
 /// So many changes are told at once.
@@ -57,9 +58,18 @@ impl Poll {
 
     /// Each change of a socket is told from now on with this key, until it is closed.
     pub fn add(&self, socket: &impl AsFd, key: u64) -> io::Result<()> {
+        self.control(ADD, socket, key)
+    }
+
+    /// What is told of a socket that was added is told with this key from now on, and what it can do by now once more.
+    pub fn change(&self, socket: &impl AsFd, key: u64) -> io::Result<()> {
+        self.control(CHANGE, socket, key)
+    }
+
+    fn control(&self, how: c_int, socket: &impl AsFd, key: u64) -> io::Result<()> {
         let event = Event { what: READABLE | WRITABLE | HUNG_UP | CHANGES, key };
         // SAFETY: both files are open, and `event` lives through the call.
-        match unsafe { epoll_ctl(self.set.as_raw_fd(), ADD, socket.as_fd().as_raw_fd(), &event) } {
+        match unsafe { epoll_ctl(self.set.as_raw_fd(), how, socket.as_fd().as_raw_fd(), &event) } {
             0 => Ok(()),
             _ => Err(io::Error::last_os_error()),
         }

@@ -5,6 +5,44 @@
 use std::ffi::{CString, c_char, c_int};
 use std::fs;
 
+/// It is measured anew once so many bytes came since, and a part of what was left.
+const MANY: u64 = 1 << 20;
+const PART: u64 = 16;
+
+/// So much memory stays free besides: what requests take while they are answered.
+const MARGIN: u64 = 16 << 20;
+
+/// The room for a state, as it was measured last.
+pub struct Room {
+    /// The folder of the state; none where that isn't told.
+    folder: Option<String>,
+    left: u64,
+    /// How many bytes came of clients since.
+    came: u64,
+}
+
+impl Room {
+    pub fn new(folder: Option<String>) -> Room {
+        Room { folder, left: 0, came: 0 }
+    }
+
+    /// Bytes came of a client.
+    pub fn add(&mut self, count: usize) {
+        self.came += count as u64;
+    }
+
+    /// Whether so much came that less may be left by now.
+    pub fn is_old(&self) -> bool {
+        self.came >= MANY.max(self.left / PART)
+    }
+
+    /// Measures it for the core, a process.
+    pub fn measure(&mut self, process: u32) -> Option<u64> {
+        (self.left, self.came) = (left(self.folder.as_ref()?, process), 0);
+        Some(self.left)
+    }
+}
+
 /// A `struct statvfs`: of its 14 numbers the size of a block and how many are free for a user.
 #[repr(C)]
 #[derive(Default)]
@@ -47,8 +85,15 @@ fn below_limit(process: u32) -> Option<u64> {
     Some(most.saturating_sub(taken))
 }
 
+/// How many bytes a process may take of the memory that is free, so that as much as it has then, which a start and a snapshot take besides, is
+/// still free, and a margin; none where nothing is known.
+fn in_memory(process: u32) -> Option<u64> {
+    let taken = kilobytes(&format!("/proc/{process}/status"), "VmSize:")?;
+    let free = [below_limit(process), kilobytes("/proc/meminfo", "MemAvailable:")].into_iter().flatten().min()?;
+    Some(free.saturating_sub(taken.saturating_add(MARGIN)) / 2)
+}
+
 /// How many bytes this process can still store in a folder; 0 where nothing is known.
-pub fn left(folder: &str, process: u32) -> u64 {
-    let all = [on_disk(folder), below_limit(process), kilobytes("/proc/meminfo", "MemAvailable:")];
-    all.into_iter().flatten().min().unwrap_or(0)
+fn left(folder: &str, process: u32) -> u64 {
+    [on_disk(folder), in_memory(process)].into_iter().flatten().min().unwrap_or(0)
 }

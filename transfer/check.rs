@@ -7,6 +7,9 @@ use crate::{Ended, Words, begin_copy, say};
 use std::collections::BTreeSet;
 use std::fs;
 use std::path::Path;
+use std::time::{SystemTime, UNIX_EPOCH};
+
+const DAY: u64 = 86_400;
 
 /// How many users a list has: its names, of lines `name:secret`; none where there is no list.
 fn users(folder: &Path) -> Option<usize> {
@@ -21,9 +24,22 @@ fn version(folder: &Path) -> String {
     fs::read_to_string(folder.join("state.version")).map_or("not noted".to_string(), |text| text.trim_end().to_string())
 }
 
+/// The date of the last change, and whether a clock was ahead then: the server's clock goes on from there.
+fn date_of(latest: u64) -> String {
+    let now = SystemTime::now().duration_since(UNIX_EPOCH).map_or(u64::MAX, |since| since.as_secs());
+    match latest {
+        0 => "none".to_string(),
+        _ if latest > now.saturating_add(DAY) => {
+            let date = internet_date(latest);
+            format!("{date}, {} days ahead of the clock here (vuldarg cut copies the state of before)", (latest - now) / DAY)
+        }
+        _ => internet_date(latest),
+    }
+}
+
 /// What the state has, a line for each.
 fn told(folder: &Path, room: &Path, entries: &[Entry]) -> Result<String, Ended> {
-    let blocks = Blocks::of(room).map_err(|error| Ended::refused(folder, error))?.unwrap_or_default();
+    let blocks = Blocks::of(room).map_err(|error| Ended::refused(folder, error))?.unwrap_or_default().before_start();
     let files: Vec<&Entry> = entries.iter().filter(|entry| !entry.is_folder).collect();
     let tokens: BTreeSet<&String> = entries.iter().flat_map(|entry| &entry.tokens).collect();
     let properties: usize = entries.iter().map(|entry| entry.dead.len()).sum();
@@ -38,7 +54,7 @@ fn told(folder: &Path, room: &Path, entries: &[Entry]) -> Result<String, Ended> 
         ("properties", format!("{properties} that clients stored")),
         ("locks", tokens.len().to_string()),
         ("users", users(room).map_or("no list".to_string(), |count| count.to_string())),
-        ("last change", if blocks.latest == 0 { "none".to_string() } else { internet_date(blocks.latest) }),
+        ("last change", date_of(blocks.latest)),
         ("served last by", version(folder)),
         ("damage", "none".to_string()),
     ];

@@ -36,8 +36,8 @@ struct Done {
     blocks: u64,
     end: u64,
     latest: u64,
-    /// Whether there is more behind the moment up to which it was to go.
-    is_cut: bool,
+    /// The moment of the first change behind the one up to which it was to go, if there is one.
+    next: Option<u64>,
 }
 
 /// The head of a block: the length of its content, how many of its bytes are 0, its digest and the head's own.
@@ -155,6 +155,7 @@ impl Copy<'_> {
         while block.left > 0 {
             let moment = block.record()?;
             if moment > self.until {
+                self.done.next = Some(moment);
                 break;
             }
             self.done.latest = self.done.latest.max(moment);
@@ -177,8 +178,7 @@ impl Copy<'_> {
                 self.done.blocks += 1;
                 self.done.end = place + HEAD + length;
             }
-            if length < head.length {
-                self.done.is_cut = true;
+            if self.done.next.is_some() {
                 return Ok(());
             }
         }
@@ -218,7 +218,7 @@ fn copy_file(from: &Path, to: &Path, until: u64, rate: u64) -> io::Result<Option
         return Ok(Some(copy.done));
     }
     let reached = marked(&front);
-    if !copy.done.is_cut && reached > copy.done.end {
+    if copy.done.next.is_none() && reached > copy.done.end {
         let name = from.file_name().unwrap_or_default().display();
         return Err(io::Error::other(format!("{name} is damaged at byte {}", copy.done.end)));
     }
@@ -270,7 +270,16 @@ fn option(words: &Words, name: &str) -> Option<u64> {
 /// Copies the blocks, and what is beside them.
 fn copy_all(folder: &Path, to: &Path, until: u64, rate: u64) -> io::Result<Done> {
     let part = to.join("state.part");
-    let done = copy_blocks(folder, &part, until, rate)?;
+    let done = copy_blocks(folder, &part, until, rate).and_then(|done| match done.next {
+        Some(next) if done.latest == 0 => {
+            Err(io::Error::other(format!("nothing was kept by {}: the first change is of {}", internet_date(until), internet_date(next))))
+        }
+        _ => Ok(done),
+    });
+    if done.is_err() {
+        let _ = fs::remove_file(&part);
+    }
+    let done = done?;
     for name in OTHERS.into_iter().filter(|name| folder.join(name).exists()) {
         fs::copy(folder.join(name), to.join(name))?;
     }

@@ -11,7 +11,7 @@ use crate::{Ended, Words, begin_copy, say};
 use std::collections::HashMap;
 use std::ffi::OsString;
 use std::fs::{self, File, FileTimes};
-use std::io::{self, BufWriter, ErrorKind, Write};
+use std::io::{self, ErrorKind, Read, Write};
 use std::os::unix::ffi::OsStringExt;
 use std::path::{Path, PathBuf};
 use std::time::{Duration, UNIX_EPOCH};
@@ -85,13 +85,54 @@ fn line_of(href: &str, property: &Element) -> String {
     format!("{{\"path\": {path}, \"namespace\": {namespace}, \"name\": {name}, \"xml\": {xml}}}")
 }
 
-/// Writes the properties that clients stored: a list of objects, one on each line.
-fn write_properties(entries: &[Entry], file: File) -> io::Result<usize> {
+/// The properties that clients stored, a list of objects, one on each line; and how many they are.
+fn properties_of(entries: &[Entry]) -> (String, usize) {
     let lines: Vec<String> = entries.iter().flat_map(|entry| entry.dead.iter().map(|property| line_of(&entry.href, property))).collect();
-    let mut file = BufWriter::new(file);
-    writeln!(file, "[{}{}]", lines.join(",\n "), if lines.is_empty() { "" } else { "\n" })?;
-    file.flush()?;
-    Ok(lines.len())
+    let end = if lines.is_empty() { "" } else { "\n" };
+    (format!("[{}{end}]\n", lines.join(",\n ")), lines.len())
+}
+
+/// How the lists beside the folder of an export begin.
+const BEGINS: [(&str, &[&str]); 2] = [(PROPERTIES, &["[]\n", "[{\"path\": "]), (ORDER, &["[{\"folder\": "])];
+
+/// Sees that what has the name of a list is one of an earlier export, which had a folder of this name: it gives way to the new one.
+fn see_beside(to: &Path) -> Result<(), Ended> {
+    for (what, begins) in BEGINS {
+        let name = beside(to, what);
+        let mut begin = Vec::new();
+        match File::open(&name).and_then(|file| file.take(16).read_to_end(&mut begin)) {
+            Err(error) if error.kind() == ErrorKind::NotFound => {}
+            Err(error) => return Err(Ended::refused(&name, error)),
+            Ok(_) if begins.iter().any(|told| begin.starts_with(told.as_bytes())) => {}
+            Ok(_) => return Err(Ended::refused(&name, "it is there, and isn't what an export writes: move it away, or export to another name")),
+        }
+    }
+    Ok(())
+}
+
+/// The name that a list has until it is whole.
+fn part_of(to: &Path, what: &str) -> PathBuf {
+    beside(to, &format!("{what}.part"))
+}
+
+/// Writes a list beside the folder, whole or not at all.
+fn write_list(to: &Path, what: &str, text: &str) -> Result<(), Ended> {
+    let part = part_of(to, what);
+    let written = fs::write(&part, text).and_then(|()| fs::rename(&part, beside(to, what)));
+    written.map_err(|error| {
+        let _ = fs::remove_file(&part);
+        Ended::refused(&beside(to, what), error)
+    })
+}
+
+/// Writes the lists, in place of those of an earlier export: no order of that one is ever beside the properties of this one.
+fn write_lists(to: &Path, properties: &str, moved: Option<&Moved>) -> Result<(), Ended> {
+    let order = beside(to, ORDER);
+    match fs::remove_file(&order) {
+        Err(error) if error.kind() != ErrorKind::NotFound => return Err(Ended::refused(&order, error)),
+        _ => write_list(to, PROPERTIES, properties)?,
+    }
+    moved.map_or(Ok(()), |moved| write_list(to, ORDER, &moved.text(properties)))
 }
 
 /// Makes the folder of an export; one that is there has to be empty.
@@ -169,17 +210,22 @@ fn place_of(to: &Path, words: &Words) -> Result<PathBuf, Ended> {
 /// Exports the state of a folder to another, or one folder of it.
 pub fn export(words: &Words) -> Result<bool, Ended> {
     let to = PathBuf::from(words.other.trim_end_matches('/'));
-    let (name, order) = (beside(&to, PROPERTIES), beside(&to, ORDER));
+    see_beside(&to)?;
     make_empty(&to)?;
-    if words.only.is_some() && order.exists() {
-        return Err(Ended::Refused(format!("{} is there already", order.display())));
+    let part = part_of(&to, PROPERTIES);
+    File::create(&part).map_err(|error| Ended::refused(&part, error))?;
+    let exported = export_to(words, &to);
+    if exported.is_err() {
+        let _ = fs::remove_file(&part);
     }
-    let properties = File::create_new(&name).map_err(|error| Ended::refused(&name, error))?;
+    exported
+}
+
+fn export_to(words: &Words, to: &Path) -> Result<bool, Ended> {
     let core = begin_copy(words, &[], words.only.is_none())?;
     let found = match find(&core, words) {
         Ok(found) => found,
         Err(ended) => {
-            let _ = fs::remove_file(&name);
             let status = core.end();
             return Err(if matches!(ended, Ended::Refused(_)) { ended } else { Ended::of(status) });
         }
@@ -187,18 +233,16 @@ pub fn export(words: &Words) -> Result<bool, Ended> {
     let entries = &found.entries;
     let (count, bytes) = entries.iter().filter(|entry| !entry.is_folder).fold((0, 0), |(count, bytes), file| (count + 1, bytes + file.size));
     let progress = Progress::new(count, bytes);
-    let (folders, files) = places(entries, &place_of(&to, words)?, &progress);
+    let (folders, files) = places(entries, &place_of(to, words)?, &progress);
     let done = progress.during(|| transfer(&core, &folders, &files, &progress));
     let status = core.end();
     if done.is_err() || status != 0 {
         return Err(Ended::of(status));
     }
-    let count = write_properties(entries, properties).map_err(|error| Ended::refused(&name, error))?;
-    if let Some(moved) = found.moved.filter(|_| progress.named() == 0) {
-        let written = File::create_new(&order).and_then(|file| moved.write(BufWriter::new(file)));
-        written.map_err(|error| Ended::refused(&order, error))?;
-    }
-    say(&format!("exported {}; {count} properties are in {}\n", progress.counts(folders.len() - 1), name.display()));
+    let (properties, count) = properties_of(entries);
+    write_lists(to, &properties, found.moved.as_ref().filter(|_| progress.named() == 0))?;
+    let list = beside(to, PROPERTIES);
+    say(&format!("exported {}; {count} properties are in {}\n", progress.counts(folders.len() - 1), list.display()));
     Ok(progress.named() == 0)
 }
 

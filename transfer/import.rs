@@ -100,13 +100,16 @@ fn put(link: &mut Link, item: &Item, progress: &Progress) -> Result<(), AskError
     };
     let time = before.mtime();
     let fields = if (0..=LAST_SECOND).contains(&time) { format!("X-OC-Mtime: {time}\r\n") } else { String::new() };
-    let mut body = Counted { file: &mut file, progress };
+    let mut body = Counted { file: &mut file, progress, count: 0 };
     let asked = link.ask("PUT", &item.href, &fields, &mut body, before.len()).map(|response| response.status);
+    let count = body.count;
     if told(asked, item, progress)? {
         progress.add(1, 0);
         if !file.metadata().is_ok_and(|after| is_same(&before, &after)) {
             progress.name(item.from.display(), "it was changed while it was read");
         }
+    } else {
+        progress.take_back(count);
     }
     Ok(())
 }
@@ -119,12 +122,14 @@ fn is_same(before: &Metadata, after: &Metadata) -> bool {
 struct Counted<'c> {
     file: &'c mut File,
     progress: &'c Progress,
+    count: u64,
 }
 
 impl Read for Counted<'_> {
     fn read(&mut self, piece: &mut [u8]) -> io::Result<usize> {
         let count = self.file.read(piece)?;
         self.progress.add(0, count as u64);
+        self.count += count as u64;
         Ok(count)
     }
 }

@@ -1,14 +1,17 @@
-//! Files in and out of a state, and what a state has: `vuldarg import`, `export`, `check`, `copy` and `cut` (docs/SERVE.md, "In and out").
+//! Files in and out of a state, and what a state has: `vuldarg import`, `export`, `check`, `copy` and `cut` (docs/SERVE.md, "In and out"); and the
+//! users who may come in: `vuldarg user`.
 //!
 //! What is asked of files is asked of the very program that serves the state, by requests over pipes: an import of the state itself, an export
 //! and a check of a private copy. So what a file is, and which state is damaged, is said in one place. A copy alone reads blocks by itself.
 #![forbid(unsafe_code)]
 
+mod answers;
 mod asking;
 mod check;
 mod client;
 mod copy;
 mod core;
+mod crypt;
 mod digest;
 mod export;
 mod http;
@@ -18,7 +21,9 @@ mod listing;
 mod making;
 mod moved;
 mod progress;
+mod sha;
 mod state;
+mod user;
 mod workers;
 mod xml;
 
@@ -55,7 +60,7 @@ pub struct Words {
     pub folder: String,
     /// An empty folder for a copy of the state, where one is made.
     pub room: String,
-    /// The folder of plain files, if it takes one.
+    /// The folder of plain files, if it takes one, or the name of a user.
     pub other: String,
     /// The one first folder that is meant, if not all are.
     pub only: Option<String>,
@@ -65,6 +70,8 @@ pub struct Words {
     /// Whether an import goes on with what an earlier one left, and whether an export leaves locks out.
     pub again: bool,
     pub without_locks: bool,
+    /// Whether a user is taken away.
+    pub removes: bool,
     /// The prefix, with its segments as in a URL.
     prefix: String,
     /// The options of the program.
@@ -89,8 +96,8 @@ pub fn say(text: &str) {
 }
 
 fn usage() -> ! {
-    eprintln!("usage: transfer import|export|check|copy PROGRAM FOLDER ROOM [OTHER] [--prefix /PATH] [--body BYTES] [--at SECONDS] [--rate BYTES]");
-    eprintln!("       [--only NAME] [--to URL] [--login FILE] [--again yes] [--without-locks yes]");
+    eprintln!("usage: transfer import|export|check|copy|user PROGRAM FOLDER ROOM [OTHER] [--prefix /PATH] [--body BYTES] [--at SECONDS] [--rate BYTES]");
+    eprintln!("       [--only NAME] [--to URL] [--login FILE] [--again yes] [--without-locks yes] [--remove yes]");
     exit(1)
 }
 
@@ -127,6 +134,7 @@ fn read_words(mut words: impl Iterator<Item = String>) -> (String, Words) {
             "--login" => told.login = Some(value),
             "--again" => told.again = true,
             "--without-locks" => told.without_locks = true,
+            "--remove" => told.removes = true,
             _ => {
                 if name == "--prefix" {
                     let segments = value.split('/').filter(|segment| !segment.is_empty());
@@ -139,14 +147,25 @@ fn read_words(mut words: impl Iterator<Item = String>) -> (String, Words) {
     (command, told)
 }
 
+/// The words of the command line, which are texts.
+fn told_words() -> impl Iterator<Item = String> {
+    std::env::args_os().skip(1).map(|word| {
+        word.into_string().unwrap_or_else(|word| {
+            eprintln!("vuldarg: {word:?} isn't UTF-8");
+            exit(1)
+        })
+    })
+}
+
 fn main() {
-    let (command, words) = read_words(std::env::args().skip(1));
+    let (command, words) = read_words(told_words());
     let done = match command.as_str() {
         "import" if words.only.is_some() => import::import_moved(&words),
         "import" => import::import(&words),
         "export" => export::export(&words),
         "check" => check::check(&words),
         "copy" => copy::copy(&words),
+        "user" => user::user(&words),
         _ => usage(),
     };
     let status = match done {

@@ -1,7 +1,8 @@
 //! Makes an exported folder in a state that has others: over pipes, or at a server that is up. What is there under its name is never changed
 //! but by an import that goes on with its own, and each tag that the folder gets there is past all that it had where it comes from.
+use crate::answers::{check, is_later, reason};
 use crate::asking::{AskError, Asks, Small};
-use crate::http::{Response, http_date};
+use crate::http::http_date;
 use crate::listing::{list, walk};
 use crate::moved::{Item, Moved};
 use crate::progress::Progress;
@@ -26,9 +27,9 @@ impl From<AskError> for Stop {
     }
 }
 
-type Made<T> = Result<T, Stop>;
+pub type Made<T> = Result<T, Stop>;
 
-fn refused<T>(why: impl Into<String>) -> Made<T> {
+pub fn refused<T>(why: impl Into<String>) -> Made<T> {
     Err(Stop::Refused(why.into()))
 }
 
@@ -41,6 +42,9 @@ const ELEMENTS: usize = 900_000;
 
 /// To count on, so many empty files are copied, and so many copies of these together.
 const COUNTING: usize = 64;
+
+/// Counting on by more than so many changes takes half a minute and longer, and is said.
+const MANY: u64 = 2_000_000;
 
 /// How far the clock may be behind, in seconds: so long it is waited.
 const BEHIND: u64 = 60;
@@ -176,6 +180,9 @@ impl Making<'_> {
         let mut number = self.wait(&probe)?;
         if number >= self.moved.past {
             return Ok(());
+        }
+        if self.moved.past - number > MANY {
+            eprintln!("vuldarg: first it counts on by {} changes, so that no tag of before comes again", self.moved.past - number);
         }
         let folders = [&one, &format!("{one}/files")].map(|path| Small::new("MKCOL", path, "", Vec::new()));
         let files = (0..COUNTING).map(|count| Small::new("PUT", &format!("{one}/files/{count}"), "", Vec::new()));
@@ -368,41 +375,4 @@ impl Making<'_> {
 
 fn set(within: &str) -> String {
     format!("<D:propertyupdate xmlns:D=\"DAV:\"><D:set><D:prop>{within}</D:prop></D:set></D:propertyupdate>")
-}
-
-fn is_later(status: u16) -> bool {
-    matches!(status, 429 | 503)
-}
-
-/// Whether a request was done: of a PROPPATCH each property (RFC 4918, 9.2).
-fn check(request: &Small, response: &Response) -> Made<()> {
-    let is_done = match request.method {
-        "PROPPATCH" => response.status == 207 && are_all_set(&response.body),
-        _ => response.status == 201,
-    };
-    if is_done { Ok(()) } else { refused(format!("{} {}: {}", request.method, request.path, reason(response.status))) }
-}
-
-fn are_all_set(body: &[u8]) -> bool {
-    let root = std::str::from_utf8(body).ok().and_then(crate::xml::Element::read);
-    let is_set = |stat: &crate::xml::Element| stat.first("status").is_some_and(|status| status.text().split(' ').nth(1) == Some("200"));
-    root.is_some_and(|root| root.all("response").all(|response| response.all("propstat").all(is_set)))
-}
-
-fn reason(status: u16) -> String {
-    let reason = match status {
-        400 => "it has a name that can't be one",
-        401 => "the login isn't taken (--login)",
-        403 => "there is no leave",
-        405 => "something is there",
-        412 => "something is there by now",
-        413 => "it is too large for the server",
-        414 | 431 => "its path is too long",
-        421 => "the server doesn't have that folder (--only), or isn't asked by a name of its own (--host)",
-        423 => "it is locked",
-        429 | 503 => "the server has no time for it",
-        507 => "there is no room",
-        _ => "it is refused",
-    };
-    format!("{reason} ({status})")
 }

@@ -4,11 +4,11 @@ use crate::export::is_file_name;
 use crate::http::{name_of, path_of};
 use crate::json::{Json, quoted};
 use crate::listing::Entry;
+use crate::sha::sha256_text;
 use crate::xml::Element;
 use std::collections::{BTreeMap, BTreeSet};
 use std::ffi::OsString;
 use std::fs;
-use std::io::{self, Write};
 use std::os::unix::ffi::OsStringExt;
 use std::path::{Path, PathBuf};
 
@@ -83,24 +83,39 @@ pub fn beside(folder: &Path, what: &str) -> PathBuf {
 pub const ORDER: &str = ".order.json";
 pub const PROPERTIES: &str = ".properties.json";
 
+/// What stands before the sum of both lists.
+const SUM: &str = ", \"sum\": \"";
+
+/// No server comes to as many changes: it would take 34 years of 1,000 in a second.
+const MOST: u64 = 1 << 40;
+
 impl Moved {
     pub fn new(folder: &str, past: u64, moment: u64, mut items: Vec<Item>) -> Moved {
         items.sort_by_key(|item| (!item.path.is_empty(), item.number));
         Moved { folder: folder.to_string(), past, moment, items }
     }
 
-    /// A list of objects, one on each line; of which the first says what the folder is. Properties are in a list of their own.
-    pub fn write(&self, mut to: impl Write) -> io::Result<()> {
-        write!(to, "[{{\"folder\": {}, \"past\": {}, \"moment\": {}}}", quoted(&self.folder), self.past, self.moment)?;
-        for item in &self.items {
-            write!(to, ",\n {}", item.line())?;
-        }
-        writeln!(to, "\n]")?;
-        to.flush()
+    /// A list of objects, one on each line; of which the first says what the folder is, and as its last member the SHA-256 of this list, without
+    /// that member, and of the list of properties: so lists that were changed aren't taken for those that were written.
+    pub fn text(&self, properties: &str) -> String {
+        let first = format!("[{{\"folder\": {}, \"past\": {}, \"moment\": {}", quoted(&self.folder), self.past, self.moment);
+        let lines: Vec<String> = self.items.iter().map(Item::line).collect();
+        let rest = format!("}},\n {}\n]\n", lines.join(",\n "));
+        let sum = sha256_text([&first, &rest, properties].concat().as_bytes());
+        format!("{first}{SUM}{sum}\"{rest}")
+    }
+
+    /// Whether a list has the sum of both.
+    fn is_sealed(order: &str, properties: &str) -> bool {
+        let told = order.split_once(SUM).and_then(|(first, rest)| Some((first, rest.split_once('"')?)));
+        told.is_some_and(|(first, (sum, rest))| sum == sha256_text([first, rest, properties].concat().as_bytes()))
     }
 
     /// Reads such a list, and that of the properties.
     fn read(order: &str, properties: &str) -> Option<Moved> {
+        if !Moved::is_sealed(order, properties) {
+            return None;
+        }
         let order = Json::read(order)?;
         let (first, items) = order.items()?.split_first()?;
         let items = items.iter().map(Item::read).collect::<Option<Vec<_>>>()?;
@@ -117,13 +132,13 @@ impl Moved {
         (dead.is_empty() && moved.is_tree()).then_some(moved)
     }
 
-    /// Whether it has each path once, each in a folder, its numbers differ and are below that of `past`.
+    /// Whether it has each path once, each in a folder, its numbers differ and are below that of `past`, which a server may have.
     fn is_tree(&self) -> bool {
         let folders: BTreeSet<&str> = self.items.iter().filter(|item| item.is_folder).map(|item| &item.path[..]).collect();
         let paths: BTreeSet<&str> = self.items.iter().map(|item| &item.path[..]).collect();
         let numbers: BTreeSet<u64> = self.items.iter().map(|item| item.number).collect();
         let is_within = |item: &Item| item.path.is_empty() || item.path.starts_with('/') && folders.contains(item.above()) && !item.path.ends_with('/');
-        let is_whole = paths.len() == self.items.len() && numbers.len() == self.items.len() && folders.contains("");
+        let is_whole = paths.len() == self.items.len() && numbers.len() == self.items.len() && folders.contains("") && self.past < MOST;
         is_whole && self.items.iter().all(|item| is_within(item) && item.number < self.past)
     }
 
@@ -134,7 +149,7 @@ impl Moved {
             fs::read_to_string(&name).map_err(|error| format!("{}: {error} (an export with --only makes it, where nothing was left out)", name.display()))
         });
         let [order, properties] = texts;
-        Moved::read(&order?, &properties?).ok_or(format!("{}: it isn't what an export with --only writes", beside(from, ORDER).display()))
+        Moved::read(&order?, &properties?).ok_or(format!("{}: it isn't what an export with --only writes, or one of both lists was changed", beside(from, ORDER).display()))
     }
 
     /// The name of the folder.
@@ -157,26 +172,33 @@ mod tests {
         Item { path: path.to_string(), number, is_folder, size: 5, modified: 7, dead: Vec::new() }
     }
 
-    fn written(moved: &Moved) -> String {
-        let mut text = Vec::new();
-        moved.write(&mut text).unwrap();
-        String::from_utf8(text).unwrap()
-    }
-
     #[test]
     fn is_read_again() {
         let moved = Moved::new("/t/a%20b", 9, 8, vec![item("/s/f", 2, false), item("/s", 5, true), item("", 7, true), item("/.vuldarg-import", 1, false)]);
         let order: Vec<&str> = moved.items.iter().map(|item| &item.path[..]).collect();
         assert_eq!(order, ["", "/.vuldarg-import", "/s/f", "/s"]);
         let properties = r#"[{"path": "/t/a%20b/s/", "namespace": "u", "name": "a", "xml": "<x:a xmlns:x=\"u\">&quot;</x:a>"}]"#;
-        let again = Moved::read(&written(&moved), properties).unwrap();
+        let again = Moved::read(&moved.text(properties), properties).unwrap();
         assert_eq!((&again.folder[..], again.past, again.moment, again.items.len()), ("/t/a%20b", 9, 8, 4));
         assert_eq!((&again.items[3].dead[..], again.name().unwrap()), (&["<x:a xmlns:x=\"u\">&quot;</x:a>".to_string()][..], b"a b".to_vec()));
         assert_eq!(again.free_name(), ".vuldarg-import-1");
         assert_eq!(again.items[2].place(Path::new("/x/a b")).unwrap(), Path::new("/x/a b/s/f"));
         for properties in ["", "[1]", r#"[{"path": "/t/a%20b/none", "namespace": "u", "name": "a", "xml": "<a/>"}]"#, r#"[{"path": "/t/a%20b/s", "xml": "<a/><b/>"}]"#] {
-            assert!(Moved::read(&written(&moved), properties).is_none(), "{properties}");
+            assert!(Moved::read(&moved.text(properties), properties).is_none(), "{properties}");
         }
+    }
+
+    #[test]
+    fn what_was_changed_is_refused() {
+        let moved = Moved::new("/t", 9, 8, vec![item("", 1, true), item("/f", 2, false)]);
+        let text = moved.text("[]\n");
+        assert!(Moved::read(&text, "[]\n").is_some());
+        for (old, new) in [("/t", "/s"), ("\"past\": 9", "\"past\": 99"), ("\"number\": 2", "\"number\": 3"), ("/f", "/g"), ("\"size\": 5", "\"size\": 6"), ("\"sum\"", "\"was\"")] {
+            assert!(Moved::read(&text.replacen(old, new, 1), "[]\n").is_none(), "{old}");
+        }
+        assert!(Moved::read(&text, "[ ]\n").is_none());
+        let moved = Moved::new("/t", MOST, 8, vec![item("", 1, true)]);
+        assert!(Moved::read(&moved.text("[]"), "[]").is_none());
     }
 
     #[test]
@@ -186,7 +208,7 @@ mod tests {
             vec![item("", 1, true), item("/f", 9, false)], vec![item("", 1, true), item("/f", 2, false), item("/f", 3, false)],
             vec![item("", 1, true), item("/f", 2, false), item("/f/g", 3, false)],
         ] {
-            assert!(Moved::read(&written(&Moved::new("/a", 9, 8, items)), "[]").is_none());
+            assert!(Moved::read(&Moved::new("/a", 9, 8, items).text("[]"), "[]").is_none());
         }
     }
 }

@@ -33,6 +33,11 @@ impl Progress {
         self.bytes.fetch_add(bytes, Ordering::Relaxed);
     }
 
+    /// Takes bytes off again that were counted and aren't there.
+    pub fn take_back(&self, bytes: u64) {
+        self.bytes.fetch_sub(bytes, Ordering::Relaxed);
+    }
+
     /// Names what can't be transferred, and why.
     pub fn name(&self, what: impl Display, why: impl Display) {
         let _line = self.line.lock();

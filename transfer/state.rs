@@ -87,6 +87,8 @@ pub struct Blocks {
     pub requests: u64,
     /// The latest moment of a recorded request, also of those before the snapshot.
     pub latest: u64,
+    /// The length of the last block's content.
+    last: u64,
 }
 
 /// Reads numbers and texts of a block.
@@ -162,8 +164,18 @@ impl Blocks {
             file.left = u64::MAX;
             found.count += 1;
             found.bytes += HEAD as u64 + length;
+            found.last = length;
         }
         Ok((found.count > 0).then_some(found))
+    }
+
+    /// The same without the block, which has nothing in it, that the last start wrote.
+    pub fn before_start(mut self) -> Blocks {
+        if self.count > 1 && self.last == 0 {
+            self.count -= 1;
+            self.bytes -= HEAD as u64;
+        }
+        self
     }
 
     fn take_first(&mut self, block: &mut Reading<impl Read + Seek>) -> io::Result<()> {

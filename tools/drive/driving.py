@@ -72,6 +72,15 @@ class Site:
         self.seconds = seconds
         self.logins = dict(logins)
 
+    def reach(self):
+        """Sees that somebody listens there."""
+        try:
+            socket.create_connection(self.address, timeout=self.seconds).close()
+        except TimeoutError:
+            raise NoAnswer(f"nobody answers within {self.seconds:g} seconds") from None
+        except OSError as error:
+            raise NoAnswer(f"nobody answers: {error.strerror or error}") from None
+
     def ask(self, method, target, fields, body):
         """The answer to a request, within the time."""
         end = time.monotonic() + self.seconds

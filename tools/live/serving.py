@@ -79,6 +79,7 @@ class Server:
     def kill(self):
         """Ends it by SIGKILL, and waits until the kernel has let go of the state, which it locks for the program."""
         children = self.children()
+        self.process.send_signal(signal.SIGSTOP)  # a front whose core is gone begins again
         for pid in [*children, self.process.pid]:
             with contextlib.suppress(ProcessLookupError):
                 os.kill(pid, signal.SIGKILL)

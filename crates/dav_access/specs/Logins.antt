@@ -28,22 +28,27 @@ is_right digest l = list_any (λ d. bytes_eq d digest) l.right
 abbrev pub is_recent : ℕ → WrongLogin → Bool
 is_recent now w = nat_lt (now - w.seconds) 60
 
--- it is, and it was of this name; it is, and it came from this address
-abbrev pub is_of : ℕ → List ℕ → WrongLogin → Bool
-is_of now name w = is_recent now w && bytes_eq w.name (sha256 name)
-
+-- it is, and it came from this address; it is, came from there, and was of this name
 abbrev pub is_from : ℕ → List ℕ → WrongLogin → Bool
 is_from now address w = is_recent now w && bytes_eq w.address (sha256 address)
 
--- of the last minute are five wrong logins of this name, or five from where the next one comes from
+abbrev pub is_of : ℕ → List ℕ → List ℕ → WrongLogin → Bool
+is_of now address name w = is_from now address w && bytes_eq w.name (sha256 name)
+
+-- of the last minute are five wrong logins of this name from where the next one comes from, or twenty
+-- of any name from there; so what others do elsewhere makes nobody wait
 abbrev pub are_many : LoginsView → List ℕ → ℕ → Bool
 are_many l name now =
-    nat_lt 4 (count_by (is_of now name) l.wrong)
-    || nat_lt 4 (count_by (is_from now l.address) l.wrong)
+    nat_lt 4 (count_by (is_of now l.address name) l.wrong)
+    || nat_lt 19 (count_by (is_from now l.address) l.wrong)
 
--- of this second are eight wrong logins
+-- of the last minute is a wrong login from where the next one comes from
+abbrev pub has_erred : LoginsView → ℕ → Bool
+has_erred l now = nat_lt 0 (count_by (is_from now l.address) l.wrong)
+
+-- of this second are eight wrong logins, or sixteen for who comes from where none was wrong
 abbrev pub is_full : LoginsView → ℕ → Bool
-is_full l now = nat_lt 7 (count_by (λ w. w.seconds == now) l.wrong)
+is_full l now = nat_lt (if has_erred l now then 7 else 15) (count_by (λ w. w.seconds == now) l.wrong)
 
 -- For so many seconds a login waits before its password is checked: not at all where it was right
 -- when it was tried last; a minute after many wrong ones; a second where this one is full; and else

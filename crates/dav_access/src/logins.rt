@@ -1,5 +1,5 @@
 //! Logins that were wrong or right, and who has to wait for the check of a password.
-ghost use Rattle.std.specs.Prelude.{◌≡◌, ◌&&◌, ◌||◌, ◌==◌, ◌++◌, ◌∷◌, [], OnOk, bytes_eq, count_by, nat_lt, not, take};
+ghost use Rattle.std.specs.Prelude.{◌≡◌, ◌&&◌, ◌||◌, ◌==◌, ◌++◌, ◌∷◌, [], OnOk, bytes_eq, count_by, if◌then◌else◌, nat_lt, not, take};
 ghost use Rattle.std.specs.List.{filter};
 ghost use Rattle.dav_access.specs.Logins.{is_recent, login_digest};
 
@@ -7,11 +7,17 @@ use sha2::{Digest, Sha256};
 use std::alloc::{AllocError, Global};
 use std::marker::Model;
 
-/// Past so many wrong logins of one name, or from one address, within a minute, further ones wait.
+/// Past so many wrong logins of one name from one address within a minute, further ones wait.
 const FEW: usize = 4;
 
-/// So many wrong logins may be within a second.
+/// Past so many from one address within a minute, whatever their names are, further ones wait.
+const FEW_FROM_ONE: usize = 19;
+
+/// So many wrong logins may be within a second, before one waits from where another was wrong.
 const MOST_AT_ONCE: usize = 8;
+
+/// So many, before one waits from where none was. In a minute these are fewer than are known.
+const MOST_OF_ALL: usize = 16;
 
 /// So many wrong logins are known, and so many right ones; within a minute there are no more wrong ones.
 const MOST: usize = 1024;
@@ -55,13 +61,6 @@ fn is_recent(login: &WrongLogin, now: u64) -> bool
     now.saturating_sub(login.seconds) < MINUTE
 }
 
-// Whether it is, and is of the name with this digest.
-fn is_of(login: &WrongLogin, name: &[u8; 32], now: u64) -> bool
-    ensures { result ≡ (is_recent now login.now && bytes_eq login.now.name name.now) }
-{
-    is_recent(login, now) && login.name.as_slice() == name.as_slice()
-}
-
 // Whether it is, and came from the address with this digest.
 fn is_from(login: &WrongLogin, address: &[u8; 32], now: u64) -> bool
     ensures { result ≡ (is_recent now login.now && bytes_eq login.now.address address.now) }
@@ -69,19 +68,19 @@ fn is_from(login: &WrongLogin, address: &[u8; 32], now: u64) -> bool
     is_recent(login, now) && login.address.as_slice() == address.as_slice()
 }
 
+// Whether it is, came from that address, and is of the name with this digest.
+fn is_of(login: &WrongLogin, address: &[u8; 32], name: &[u8; 32], now: u64) -> bool
+    ensures { result ≡ ((is_recent now login.now && bytes_eq login.now.address address.now)
+        && bytes_eq login.now.name name.now) }
+{
+    is_from(login, address, now) && login.name.as_slice() == name.as_slice()
+}
+
 // How many wrong logins there are of a second.
 fn count_at(wrong: &[WrongLogin], now: u64) -> usize
     ensures { result ≡ count_by (λ w. w.seconds == now) wrong.now }
 {
     wrong.iter().filter(|w| w.seconds == now).count()
-}
-
-// How many wrong logins of the last minute are of the name with this digest.
-fn count_of(wrong: &[WrongLogin], name: &[u8; 32], now: u64) -> usize
-    ensures { result
-        ≡ count_by (λ w. is_recent now w && bytes_eq w.name name.now) wrong.now }
-{
-    wrong.iter().filter(|w| is_of(w, name, now)).count()
 }
 
 // How many of the last minute came from the address with this digest.
@@ -92,11 +91,33 @@ fn count_from(wrong: &[WrongLogin], address: &[u8; 32], now: u64) -> usize
     wrong.iter().filter(|w| is_from(w, address, now)).count()
 }
 
-// Whether so many wrong logins of a name, or from an address, are many.
-fn are_many(of_name: usize, from_address: usize) -> bool
-    ensures { result ≡ (nat_lt 4 of_name || nat_lt 4 from_address) }
+// How many of these are of the name with this digest.
+fn count_of(wrong: &[WrongLogin], address: &[u8; 32], name: &[u8; 32], now: u64) -> usize
+    ensures { result ≡ count_by (λ w. (is_recent now w && bytes_eq w.address address.now)
+        && bytes_eq w.name name.now) wrong.now }
 {
-    of_name > FEW || from_address > FEW
+    wrong
+        .iter()
+        .filter(|w| is_of(w, address, name, now))
+        .count()
+}
+
+// Whether so many wrong logins of a name from an address, or from there, are many.
+fn are_many(of_name: usize, from_address: usize) -> bool
+    ensures { result ≡ (nat_lt 4 of_name || nat_lt 19 from_address) }
+{
+    of_name > FEW || from_address > FEW_FROM_ONE
+}
+
+// Whether so many wrong logins of a second are all that there may be, for who comes from where one was wrong or none.
+fn is_full(at_once: usize, has_erred: bool) -> bool
+    ensures { result ≡ nat_lt (if has_erred then 7 else 15) at_once }
+{
+    if has_erred {
+        at_once >= MOST_AT_ONCE
+    } else {
+        at_once >= MOST_OF_ALL
+    }
 }
 
 // Forgets the wrong logins before the last minute, and adds one.
@@ -137,7 +158,7 @@ fn login_digest(name: &[u8], password: &[u8]) -> [u8; 32]
 
 impl Logins {
     ghost use Rattle.std.specs.Prelude.{◌≡◌, OnOk};
-    ghost use Rattle.dav_access.specs.Logins.{after_right, after_wrong, are_many, is_full, is_right, no_logins, wait_of, wrong_login};
+    ghost use Rattle.dav_access.specs.Logins.{after_right, after_wrong, are_many, has_erred, is_full, is_right, no_logins, wait_of, wrong_login};
 
     /// None was tried.
     pub fn new(alloc: Global) -> Logins
@@ -159,9 +180,9 @@ impl Logins {
     }
 
     /// For how many seconds a login waits at this time, in seconds, before its password is checked: 0
-    /// where it was right when it was tried last; 60 where five were wrong within the last minute of
-    /// that name, or five from the address that was heard last; 1 where eight were wrong within this
-    /// second; else 0.
+    /// where it was right when it was tried last; 60 where of the last minute five were wrong of that
+    /// name from the address that was heard last, or twenty from there; 1 where eight were wrong within
+    /// this second, or sixteen, where none of the last minute was wrong from there; else 0.
     pub fn wait_of(&self, name: &[u8], password: &[u8], now: u64) -> u64
         ensures { result ≡ wait_of self.now name.now password.now now }
     {
@@ -183,20 +204,28 @@ impl Logins {
         self.right.iter().any(|d| d.as_slice() == digest.as_slice())
     }
 
+    // Whether a wrong login of the last minute came from where the next one comes from.
+    fn has_erred(&self, now: u64) -> bool
+        ensures { result ≡ has_erred self.now now }
+    {
+        count_from(&self.wrong, &Sha256::digest(&self.address), now) > 0
+    }
+
     // Whether there are no more wrong logins to be in a second.
     fn is_full(&self, now: u64) -> bool
         ensures { result ≡ is_full self.now now }
     {
-        count_at(&self.wrong, now) >= MOST_AT_ONCE
+        is_full(count_at(&self.wrong, now), self.has_erred(now))
     }
 
     // Whether there were many wrong logins within the last minute.
     fn are_many(&self, name: &[u8], now: u64) -> bool
         ensures { result ≡ are_many self.now name.now now }
     {
+        let address = Sha256::digest(&self.address);
         are_many(
-            count_of(&self.wrong, &Sha256::digest(name), now),
-            count_from(&self.wrong, &Sha256::digest(&self.address), now),
+            count_of(&self.wrong, &address, &Sha256::digest(name), now),
+            count_from(&self.wrong, &address, now),
         )
     }
 

@@ -11,8 +11,12 @@ use crate::claims::Claims;
 use sqlite_disk::{Disk, Tally};
 use std::io;
 
-/// A disk with a claim: the claim is looked for before what is written since the last read, and after
-/// each sync. Where it isn't there, nothing is written, and no sync is told as done.
+/// A write of so many bytes has a look of its own.
+const LARGE: usize = 65_536;
+
+/// A disk with a claim: the claim is looked for before the first write since the last read, before
+/// each write of 65,536 bytes or more and each new length, and after each sync. Where it isn't there,
+/// nothing is written, and no sync is told as done.
 #[derive(Drop)]
 pub struct Claimed<D: Disk, C> {
     disk: D,
@@ -65,6 +69,23 @@ impl<C> Look<C> {
             return Ok(());
         }
         self.see(disk)
+    }
+
+    // The same, before a write of so many bytes: a large one has a look of its own.
+    fn see_before<D>(&mut self, disk: &D, count: usize) -> io::Result<()>
+    where
+        C: Claims<D>,
+        ensures found { OnOk result (found_since self.old ≡ false
+            → C.found_own (found_by self.new) disk.now) }
+        ensures large { OnOk result (65536 ≤ count → C.found_own (found_by self.new) disk.now) }
+        ensures noted { found_since self.new ≡ is_ok result }
+        ensures faults { CountsFault result (refused_by self.old) (refused_by self.new) }
+        ensures kind { finds_no_room result ≡ false }
+    {
+        if count >= LARGE {
+            return self.see(disk);
+        }
+        self.see_once(disk)
     }
 }
 
@@ -153,7 +174,9 @@ impl<D: Disk, C: Claims<D>> Disk for Claimed<D, C> {
         requires { IsTrue (can_be_used D.is_usable self.old) }
         ensures own { OnOk result (is_found self.old ≡ false
             → C.found_own (claim_of self.new) (disk_of self.old)) }
-        ensures unfound { is_found self.old ≡ false → is_found self.new ≡ false
+        ensures large { OnOk result (65536 ≤ length bytes.now
+            → C.found_own (claim_of self.new) (disk_of self.old)) }
+        ensures unfound { is_found self.new ≡ false
             → IsErr result × (disk_of self.new ≡ disk_of self.old) }
         ensures written { OnOk result (0 < length bytes.now
             → Holds (D.seen (disk_of self.new)) at bytes.now) }
@@ -179,15 +202,14 @@ impl<D: Disk, C: Claims<D>> Disk for Claimed<D, C> {
         ensures crash { Follows (Torn at (length bytes.now)) (D.may_leave (disk_of self.old))
             (D.may_leave (disk_of self.new)) }
     {
-        self.look.see_once(&self.disk)?;
+        self.look.see_before(&self.disk, bytes.len())?;
         self.disk.write_at(at, bytes)
     }
 
     fn set_len(&mut self, len: usize) -> io::Result<()>
         requires { IsTrue (can_be_used D.is_usable self.old) }
-        ensures own { OnOk result (is_found self.old ≡ false
-            → C.found_own (claim_of self.new) (disk_of self.old)) }
-        ensures unfound { is_found self.old ≡ false → is_found self.new ≡ false
+        ensures own { OnOk result (C.found_own (claim_of self.new) (disk_of self.old)) }
+        ensures unfound { is_found self.new ≡ false
             → IsErr result × (disk_of self.new ≡ disk_of self.old) }
         ensures len { OnOk result (length (D.seen (disk_of self.new)) ≡ len) }
         ensures faults { CountsFault result (faults_of D.faults self.old)
@@ -207,7 +229,7 @@ impl<D: Disk, C: Claims<D>> Disk for Claimed<D, C> {
         ensures crash { Follows (Cut len) (D.may_leave (disk_of self.old))
             (D.may_leave (disk_of self.new)) }
     {
-        self.look.see_once(&self.disk)?;
+        self.look.see(&self.disk)?;
         self.disk.set_len(len)
     }
 

@@ -1,5 +1,5 @@
 -- The first byte that a request names is one.
-use Rattle.std.proofs.Common.{◌≡◌, ◌⊎◌, ◌<◌, inl, inr, ℕ, Bool, true, false, List, codes, Option, Some, None, refl, sym, ap, subst, ◌∙◌, true≢false, arith}
+use Rattle.std.proofs.Common.{◌≡◌, ◌≢◌, ◌⊎◌, ◌<◌, ◌==◌, not, inl, inr, ℕ, Bool, true, false, List, [], length, codes, Option, Some, None, refl, sym, ap, subst, ◌∙◌, true≢false, arith}
 use Rattle.std.specs.Bool.{Decides}
 use Rattle.std.specs.Prelude.{IsSomeAnd}
 use Rattle.http_header.specs.FieldValue.{FieldValue}
@@ -15,7 +15,8 @@ use Rattle.dav_headers.proofs.OneReading.{one_content_range}
 use Rattle.dav_engine.specs.Headers.{Headers}
 use Rattle.dav_server.specs.Head.{Request}
 use Rattle.dav_server.specs.Headers.{headers_of}
-use Rattle.dav_http.specs.Placed.{BeginsPast, IsRangedFrom, IsUpdatedFrom, NamesFirst}
+use Rattle.dav_http.specs.Placed.{BeginsPast, IsPlaced, IsRangedFrom, IsUpdatedFrom, NamesBytes, NamesFirst}
+use Rattle.dav_http.specs.Refused.{IsUnread}
 
 -- a range that was read without bounds names no first byte
 pub unbounded : (values : List FieldValue) (r : ContentRange) → IsContentRange values r → r.bounds ≡ None → Decodes IsRangedFrom values None
@@ -85,3 +86,27 @@ module _ (r : Request) (headers : Headers) (same : headers ≡ headers_of r.fiel
         | inl from ↦ inl (of_past IsRangedFrom (get_all headers (codes "content-range")) (one_ranged (get_all headers (codes "content-range"))) most ranged here first from is)
         | inr from ↦ inr (of_past IsUpdatedFrom (get_all headers (codes "x-update-range")) (one_updated (get_all headers (codes "x-update-range"))) most updated there first from is)
       ]
+
+-- ---- ranges that name no bytes
+
+not_both_ways : (is : Bool) → not is ≡ true → is ≡ true → ⊥
+not_both_ways true h k = true≢false (sym h)
+not_both_ways false h k = true≢false (sym k)
+
+not_it : (is : Bool) → (is ≡ true → ⊥) → not is ≡ true
+not_it true never = absurd (never refl)
+not_it false never = refl
+
+-- a range that is there names no bytes, where it isn't so that what it says names some
+pub decides_unplaced : (values : List FieldValue) (range : Option ContentRange) (r : ContentRange) (is : Bool) → range ≡ Some r → values ≢ []
+    → Decodes IsContentRange values range → (is ≡ true → NamesBytes r) × (NamesBytes r → is ≡ true)
+    → (not is ≡ true → IsUnread IsPlaced values) × (IsUnread IsPlaced values → not is ≡ true)
+decides_unplaced values range r is some there decodes names =
+    let reads : IsContentRange values r = subst (λ (o : Option ContentRange). Decodes IsContentRange values o) some decodes in (
+      λ no. (there, λ a placed. not_both_ways is no (names.1 (subst NamesBytes (one_content_range values a r placed.0 reads) placed.1))),
+      λ unread. not_it is (λ yes. unread.1 r (reads, names.0 yes)),
+    )
+
+-- a field is there of which values were found
+pub is_there : (items values : List FieldValue) → items ≡ values → (length items == 0) ≡ false → values ≢ []
+is_there items values same some none = true≢false (ap (λ (vs : List FieldValue). length vs == 0) (sym none ∙ sym same) ∙ some)

@@ -1,14 +1,24 @@
 -- Where a PUT or PATCH begins to write that names a place in its file (RFC 9110, section 14.4; SabreDAV's partial update by PATCH).
-use Rattle.std.specs.Prelude.{◌≡◌, ◌⊎◌, ◌<◌, ℕ, List, Option, Some, codes}
+use Rattle.std.specs.Prelude.{◌≡◌, ◌⊎◌, ◌<◌, ◌≤◌, ℕ, List, Option, Some, IfSome, IsSomeAnd, codes}
 use Rattle.http_header.specs.FieldValue.{FieldValue}
 use Rattle.http_header.specs.HeaderMap.{get_all}
 use Rattle.dav_headers.specs.ContentRange.{IsContentRange}
 use Rattle.dav_headers.specs.UpdateRange.{IsUpdateRange}
 use Rattle.dav_headers.specs.Value.{Decodes}
+use Rattle.dav_headers.specs.declared.range.ContentRange.{ContentRange}
 use Rattle.dav_headers.specs.declared.range.XUpdateRange.TheVariants.{AllFrom, FromTo}
 use Rattle.dav_engine.specs.Headers.{Headers}
 use Rattle.dav_server.specs.Head.{Request}
 use Rattle.dav_server.specs.Headers.{headers_of}
+
+-- A range names bytes that a file can have: the last one isn't before the first, and, where the length of the file is named, not past it
+-- (RFC 9110, section 14.4).
+abbrev pub NamesBytes : ContentRange → Type 0
+NamesBytes r = IsSomeAnd r.bounds (λ b. (b.0 ≤ b.1) × IfSome r.length (λ n. b.1 < n))
+
+-- these values of Content-Range are a range that names bytes (RFC 9110, section 14.5)
+abbrev pub IsPlaced : List FieldValue → ContentRange → Type 0
+IsPlaced values r = IsContentRange values r × NamesBytes r
 
 -- these values of Content-Range name bytes from this one on (RFC 9110, section 14.4)
 abbrev pub IsRangedFrom : List FieldValue → ℕ → Type 0

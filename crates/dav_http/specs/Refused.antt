@@ -1,5 +1,5 @@
--- Requests that aren't run: what they say of their conditions isn't understood, what is there was changed since, or they ask for too much
--- (RFC 9110, sections 13.1 and 13.2.1; RFC 4918, sections 9.1 and 10.4).
+-- Requests that aren't run: what they say of their conditions, or of their place in a file, isn't understood, what is there was changed since,
+-- or they ask for too much (RFC 9110, sections 13.1, 13.2.1 and 14.5; RFC 4918, sections 9.1 and 10.4).
 use Rattle.std.specs.Prelude.{◌≡◌, ◌≢◌, ◌⊎◌, ℕ, ◌<◌, ◌≤◌, false, if◌then◌else◌, List, [], codes, Option, Some, None, Ok}
 use Rattle.http_header.specs.HeaderMap.{get_all}
 use Rattle.http_header.specs.FieldValue.{FieldValue}
@@ -19,22 +19,25 @@ use Rattle.dav_server.specs.Target.{TargetNames}
 use Rattle.dav_presented.specs.Fields.{date_of, is_absent}
 use Rattle.dav_presented.specs.Missing.{AsksForMany}
 use Rattle.dav_xml.specs.Namespaces.{document}
+use Rattle.dav_http.specs.Placed.{IsPlaced}
 
 -- a method that is served and may change something (RFC 9110, section 9.2.1)
 abbrev pub MayChange : List ℕ → Type 0
 MayChange method = (m : DavMethod) × GivesServed method (Ok m) × (is_safe m ≡ false)
 
--- ---- conditions that aren't understood
+-- ---- what isn't understood
 
 -- a field is there, and its values mean nothing
 abbrev pub IsUnread : {A : Type 0} → (List FieldValue → A → Type 0) → List FieldValue → Type 0
 IsUnread {A} Means values = (values ≢ []) × ((a : A) → ¬ Means values a)
 
--- an If, an If-Match or an If-None-Match is there, and means nothing (RFC 4918, section 10.4; RFC 9110, sections 13.1.1 and 13.1.2)
+-- An If, an If-Match or an If-None-Match is there, and means nothing (RFC 4918, section 10.4; RFC 9110, sections 13.1.1 and 13.1.2); or a
+-- Content-Range that names no bytes: what comes isn't the whole of a file (RFC 9110, section 14.5).
 abbrev pub HasUnread : Headers → Type 0
 HasUnread headers =
-    IsUnread IsIfHeader (get_all headers (codes "if"))
-    ⊎ (IsUnread IsTagList (get_all headers (codes "if-match")) ⊎ IsUnread IsTagList (get_all headers (codes "if-none-match")))
+    (IsUnread IsIfHeader (get_all headers (codes "if"))
+    ⊎ (IsUnread IsTagList (get_all headers (codes "if-match")) ⊎ IsUnread IsTagList (get_all headers (codes "if-none-match"))))
+    ⊎ IsUnread IsPlaced (get_all headers (codes "content-range"))
 
 -- ---- changes that the client hasn't seen
 
@@ -53,7 +56,7 @@ IsChangedAt s q moment =
 abbrev pub IsStale : Server → Request → Type 0
 IsStale s q = (since : ℕ) × (moment : ℕ) × (since_in (headers_of q.fields) ≡ Some since) × IsChangedAt s q moment × (since < moment)
 
--- The conditions of a request aren't met, or not understood, so it is answered with this status.
+-- The conditions of a request aren't met, or it isn't understood, so it is answered with this status.
 pub data IsUnmet (s : Server) (q : Request) : ℕ → Type 0 where
   unread : HasUnread (headers_of q.fields) → IsUnmet s q 400
   stale : ¬ HasUnread (headers_of q.fields) → IsStale s q → IsUnmet s q 412

@@ -1,13 +1,14 @@
 //! Where a PUT or PATCH begins to write that names a place in its file: Content-Range (RFC 9110, section 14.4), or X-Update-Range of
 //! SabreDAV's partial updates.
-ghost use Rattle.std.specs.Prelude.{◌≡◌, ◌⊎◌, ◌<◌, List, IfOk, IsSomeAnd, codes};
+ghost use Rattle.std.specs.Prelude.{◌≡◌, ◌≢◌, ◌⊎◌, ◌<◌, [], List, IfOk, IsSomeAnd, codes};
 ghost use Rattle.std.specs.Bool.{Decides};
 ghost use Rattle.http_header.specs.HeaderMap.{get_all};
 ghost use Rattle.http_header.specs.FieldValue.{FieldValue};
 ghost use Rattle.dav_headers.specs.ContentRange.{IsContentRange};
 ghost use Rattle.dav_headers.specs.UpdateRange.{IsUpdateRange};
 ghost use Rattle.dav_headers.specs.Value.{Decodes};
-ghost use Rattle.dav_http.specs.Placed.{AreFirsts, BeginsPast, IsRangedFrom, IsUpdatedFrom};
+ghost use Rattle.dav_http.specs.Placed.{AreFirsts, BeginsPast, IsPlaced, IsRangedFrom, IsUpdatedFrom, NamesBytes};
+ghost use Rattle.dav_http.specs.Refused.{IsUnread};
 ghost use Rattle.dav_server.specs.Headers.{headers_of};
 
 use crate::head::Head;
@@ -25,6 +26,40 @@ fn range_in(alloc: Global, headers: &HeaderMap) -> Result<Option<ContentRange>, 
 {
     let values = values_of(alloc, headers, names::CONTENT_RANGE())?;
     absent_if_invalid(ContentRange::decode(alloc, &values))
+}
+
+// Whether a range names bytes that a file can have.
+fn names_bytes(range: &ContentRange) -> bool
+    ensures { Decides result (NamesBytes range.now) }
+{
+    match (range.bounds, range.length) {
+        (Some((first, last)), Some(length)) => first <= last && last < length,
+        (Some((first, last)), None) => first <= last,
+        (None, _) => false,
+    }
+}
+
+// Whether a Content-Range that is there says this, or nothing, and so names no bytes.
+fn names_none(range: Option<ContentRange>) -> bool
+    ensures { (values : List FieldValue) → values ≢ [] → Decodes IsContentRange values range
+        → Decides result (IsUnread IsPlaced values) }
+{
+    match range {
+        Some(range) => !names_bytes(&range),
+        None => true,
+    }
+}
+
+/// Whether a Content-Range is there that names no bytes of a file (RFC 9110, section 14.5).
+pub fn is_unplaced(alloc: Global, headers: &HeaderMap) -> Result<bool, NoMemory>
+    ensures { IfOk result (λ is.
+        Decides is (IsUnread IsPlaced (get_all headers.now (codes "content-range")))) }
+{
+    let values = values_of(alloc, headers, names::CONTENT_RANGE())?;
+    if values.is_empty() {
+        return Ok(false);
+    }
+    Ok(names_none(range_in(alloc, headers)?))
 }
 
 // What X-Update-Range says.

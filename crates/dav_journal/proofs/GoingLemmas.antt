@@ -117,6 +117,7 @@ let_go_fades former old new f r = record {
     λ i from low. elim (f.each i low) [ inl lost ↦ lost | inr kept ↦ kept ∙ r.version.1 i from low ],
   );
   key_there = holds_from 8 8 _ old new (omega arith) f.same r.key_there;
+  length_there = holds_from 8 16 _ old new (omega arith) f.same r.length_there;
   faint = λ i low. elim (r.faint i low) [ inl lost ↦ inl (f.same.each (16 + i) (omega arith) ∙ lost) | inr kept ↦ inr (f.same.each (16 + i) (omega arith) ∙ kept) ];
   lost = λ h. r.lost (holds_from 8 16 _ new old (omega arith) (from_back 8 old new f.same) h);
 }
@@ -134,6 +135,11 @@ going_long former blocks file (inr r) = r.whole
 pub first_head : (former : List ℕ) (blocks : List (List ℕ)) (file : List ℕ) (r : ElderRecovers file (former ∷ blocks)) → Holds file 16 (elder_head r.key 16 former)
 first_head former blocks file r = holds_first file 16 (elder_head r.key 16 former) former r.blocks.0.holds
 
+-- the length that the first head tells
+pub head_length : (former : List ℕ) (blocks : List (List ℕ)) (file : List ℕ) → ElderRecovers file (former ∷ blocks) → Holds file 16 (to_be_bytes w64 (length former))
+unfolding elder_head
+head_length former blocks file r = holds_first file 16 (to_be_bytes w64 (length former)) _ (first_head former blocks file r)
+
 -- what zeros over the digests of the first head may leave
 pub loses : (former : List ℕ) (blocks : List (List ℕ)) (old new : List ℕ) → HasZeros old 0 8 → IsGoing former blocks old → Mixed 24 (replicate 16 0) old new → IsGoing former blocks new
 loses former blocks old new none (inl r) m = elim (holds_known new 16 (elder_head r.key 16 former)) [
@@ -143,6 +149,7 @@ loses former blocks old new none (inl r) m = elim (holds_known new 16 (elder_hea
     whole = omega (arith, long, same_length);
     version = (omega (arith, long, same_length), λ i from to. low i (omega (arith, to)) ∙ none.1 i from to);
     key_there = record { within = omega (arith, long, same_length); each = λ i below. low (8 + i) (omega (arith, below)) ∙ r.front.key_there.each i below };
+    length_there = record { within = omega (arith, long, same_length); each = λ i below. low (16 + i) (omega (arith, below)) ∙ (head_length former blocks old r).each i below };
     faint = λ i below. elim (cases_lt i 8) [
       | inl early ↦ inr (low (16 + i) (omega (arith, early)) ∙ head.each i below)
       | inr late ↦
@@ -190,6 +197,7 @@ loses former blocks old new none (inr r) m = inr (record {
   whole = omega (arith, r.whole, m.torn.no_shorter);
   version = (omega (arith, r.whole, m.torn.no_shorter), λ i from to. low i (omega (arith, to)) ∙ none.1 i from to);
   key_there = record { within = omega (arith, r.whole, m.torn.no_shorter); each = λ i below. low (8 + i) (omega (arith, below)) ∙ r.key_there.each i below };
+  length_there = record { within = omega (arith, r.whole, m.torn.no_shorter); each = λ i below. low (16 + i) (omega (arith, below)) ∙ r.length_there.each i below };
   faint = λ i below. elim (byte i below) [
     | inl lost ↦ inl lost
     | inr kept ↦ elim (r.faint i below) [ inl lost ↦ inl (kept ∙ lost) | inr same ↦ inr (kept ∙ same) ]
@@ -235,13 +243,14 @@ lost_going former blocks old new none going t h some = (go going, zeros)
     low : (i : ℕ) → i < 24 → slice_index new i ≡ slice_index old i
     low i below = t.below i (omega (arith, below, long)) below
 
-    let_go : (key : ℕ) → key < 2 ^ 64 → Holds old 8 (to_be_bytes w64 key) → IsFaint old 16 (elder_head key 16 former) → IsLetGo former new
-    let_go key small there faint = record {
+    let_go : (key : ℕ) → key < 2 ^ 64 → Holds old 8 (to_be_bytes w64 key) → Holds old 16 (to_be_bytes w64 (length former)) → IsFaint old 16 (elder_head key 16 former) → IsLetGo former new
+    let_go key small there told faint = record {
       key = key;
       small = small;
       whole = omega (arith, long, t.no_shorter);
       version = (omega (arith, long, t.no_shorter), λ i from to. low i (omega (arith, to)) ∙ none.1 i from to);
       key_there = record { within = omega (arith, long, t.no_shorter); each = λ i below. low (8 + i) (omega (arith, below)) ∙ there.each i below };
+      length_there = record { within = omega (arith, long, t.no_shorter); each = λ i below. low (16 + i) (omega (arith, below)) ∙ told.each i below };
       faint = λ i below. elim (cases_lt i 8) [
         | inl early ↦ elim (faint i below) [ inl lost ↦ inl (low (16 + i) (omega (arith, early)) ∙ lost) | inr same ↦ inr (low (16 + i) (omega (arith, early)) ∙ same) ]
         | inr late ↦ inl (zeros.1 (16 + i) (omega (arith, late)) (omega (arith, below, length-elder key 16 former)))
@@ -251,8 +260,8 @@ lost_going former blocks old new none going t h some = (go going, zeros)
     }
 
     go : IsGoing former blocks old → IsLetGo former new
-    go (inl r) = let_go r.key r.small r.front.key_there (λ i below. inr ((first_head former blocks old r).each i below))
-    go (inr r) = let_go r.key r.small r.key_there r.faint
+    go (inl r) = let_go r.key r.small r.front.key_there (head_length former blocks old r) (λ i below. inr ((first_head former blocks old r).each i below))
+    go (inr r) = let_go r.key r.small r.key_there r.length_there r.faint
 
 -- what is behind the first head may change
 pub let_go_kept : (former old new : List ℕ) → KeepsFront 40 old new → IsLetGo former old → IsLetGo former new
@@ -262,6 +271,7 @@ let_go_kept former old new k r = record {
   whole = k.within;
   version = (omega (arith, k.within), λ i from to. k.each i (omega (arith, to)) ∙ r.version.1 i from to);
   key_there = holds_kept 40 8 _ old new r.key_there k (omega arith);
+  length_there = holds_kept 40 16 _ old new r.length_there k (omega arith);
   faint = λ i below. elim (r.faint i below) [
     | inl lost ↦ inl (k.each (16 + i) (omega (arith, below, length-elder r.key 16 former)) ∙ lost)
     | inr same ↦ inr (k.each (16 + i) (omega (arith, below, length-elder r.key 16 former)) ∙ same)

@@ -1,5 +1,5 @@
 -- A journal that only reads.
-use Rattle.std.proofs.Common.{◌+◌, ◌-◌, ◌<◌, inl, inr, ◌≡◌, ℕ, ◌≤◌, List, Result, Ok, Err, length, slice_index, sym, ◌∙◌, ap, subst, arith}
+use Rattle.std.proofs.Common.{◌+◌, ◌-◌, ◌<◌, inl, inr, ◌≡◌, ℕ, ◌≤◌, List, Result, Ok, Err, length, refl, slice_index, sym, ◌∙◌, ap, subst, arith}
 use Rattle.std.proofs.lemmas.Bool.{cases_lt}
 use Rattle.std.proofs.lemmas.List.{ext_get_or}
 use Rattle.sqlite_disk.specs.Disk.{Follows, Holds}
@@ -25,6 +25,9 @@ stays_then g old mid new a b = record {
   end = b.end ∙ a.end;
   len = b.len ∙ a.len;
 }
+
+pub stays_same : {D : Type 0} (g : Ghosts D) (j : Journal D) → Stays g j j
+stays_same g j = record { reads = record { seen = refl; crash = λ c may. may; clean = λ is. is }; key = refl; end = refl; len = refl }
 
 pub reading_stays : {D : Type 0} (g : Ghosts D) (old new : Journal D) (contents : List (List ℕ)) → Stays g old new → IsReading g old contents → IsReading g new contents
 reading_stays g old new contents s r = record {

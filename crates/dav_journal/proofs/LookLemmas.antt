@@ -1,12 +1,13 @@
 -- A pair that only looks keeps what it kept.
-use Rattle.std.proofs.Common.{◌≡◌, ◌<◌, ◌^◌, ℕ, List, [], ap, inl, refl, slice_index, sym, ◌∙◌, subst}
+use Rattle.std.proofs.Common.{◌≡◌, ◌≢◌, ◌<◌, ◌^◌, ℕ, List, [], ◌∷◌, ap, arith, inl, slice_index, sym, ◌∙◌, subst}
 use Rattle.std.specs.Int.{w64, to_be_bytes}
 use Rattle.sqlite_disk.specs.Disk.{Holds}
 use Rattle.sqlite_disk.specs.declared.Disk.{Ghosts}
 use Rattle.dav_journal.specs.declared.journal.Journal.{Journal}
 use Rattle.dav_journal.specs.declared.pair.Pair.{Pair}
 use Rattle.dav_journal.specs.Journal.{HasRead, IsKept, IsReading, OnlyLooks, Stays}
-use Rattle.dav_journal.specs.Pair.{HasReadPair, IsKeptPair, IsReadingPair, IsSpare, IsUnturned, OnlyLooksPair, OnlyReadsPair, PairLeaves, PairLeavesOnly, with_generation}
+use Rattle.dav_journal.specs.Pair.{HasAllPair, HasReadPair, IsKeptPair, IsReadingPair, IsSpare, IsUnturned, OnlyLooksPair, OnlyReadsPair, PairLeaves, PairLeavesOnly, with_generation}
+use Rattle.dav_journal.proofs.BlockLemmas.{block_content, holds_first}
 use Rattle.dav_journal.proofs.JournalLemmas.{nothing_stays, read_stays, reading_stays}
 use Rattle.dav_journal.proofs.PairLemmas.{kept_recovers, pair_alone}
 
@@ -39,9 +40,6 @@ looks_leaves g old new contents others l was c d may might = inl (looks_only g o
 pub looks_stay : {D : Type 0} (g : Ghosts D) (old new : Journal D) → OnlyLooks g old new → Stays g old new
 looks_stay g old new l = record { reads = l.reads; key = ap (λ j. j.key) l.same; end = ap (λ j. j.end) l.same; len = ap (λ j. j.len) l.same }
 
-pub stays_same : {D : Type 0} (g : Ghosts D) (j : Journal D) → Stays g j j
-stays_same g j = record { reads = record { seen = refl; crash = λ c may. may; clean = λ is. is }; key = refl; end = refl; len = refl }
-
 spare_stays : {D : Type 0} (g : Ghosts D) (old new : Journal D) (generation : ℕ) → Stays g old new → IsSpare g old generation → IsSpare g new generation
 spare_stays g old new generation s was = record {
   small = rw s.key was.small;
@@ -72,6 +70,13 @@ reading_pair_looks g old new contents looks was = record {
   spare = subst (λ (n : ℕ). IsSpare g new.spare n) (sym looks.generation) (spare_stays g old.spare new.spare old.generation (looks_stay g old.spare new.spare looks.spare) was.spare);
 }
 
+-- what was read of a pair is all that it has where it only looks
+pub all_pair_looks : {D : Type 0} (g : Ghosts D) (old new : Pair D) (contents : List (List ℕ)) → OnlyLooksPair g old new → HasAllPair g old contents → HasAllPair g new contents
+all_pair_looks g old new contents looks was = record {
+  reading = reading_pair_looks g old new contents looks was.reading;
+  all = λ some. read_pair_stays g old new contents (looks_stay g old.counts new.counts looks.counts) (looks_stay g old.spare new.spare looks.spare) looks.generation (was.all some);
+}
+
 -- what nobody turned is as it was where it only looks
 pub unturned_looks : {D : Type 0} (g : Ghosts D) (old new : Pair D) → OnlyLooksPair g old new → IsUnturned g old → IsUnturned g new
 unturned_looks g old new looks was =
@@ -82,3 +87,15 @@ unturned_looks g old new looks was =
       first = subst (λ (f : List ℕ). Holds f 121 (to_be_bytes w64 new.generation)) (sym counts.reads.seen) (subst (λ (n : ℕ). Holds (g.seen old.counts.disk) 121 (to_be_bytes w64 n)) (sym looks.generation) was.first);
       other = nothing_stays g old.spare new.spare spare was.other;
     }
+
+-- the first block of a pair of which blocks were read
+pub first_here : {D : Type 0} (g : Ghosts D) (p : Pair D) (first : List ℕ) (contents : List (List ℕ)) → IsReadingPair g p (first ∷ contents) → (slice_index (g.seen p.counts.disk) 72 ≡ 1) × Holds (g.seen p.counts.disk) 121 (to_be_bytes w64 p.generation)
+first_here g p first contents was =
+    let block = was.reading.blocks.0 in
+    let file = g.seen p.counts.disk in
+    (block.holds.each 0 (omega arith), holds_first file 121 (to_be_bytes w64 p.generation) first (block_content p.counts.key file 72 _ block))
+
+-- the same, where blocks end behind where they begin
+pub first_of : {D : Type 0} (g : Ghosts D) (p : Pair D) (contents : List (List ℕ)) → p.counts.end ≢ 72 → IsReadingPair g p contents → (slice_index (g.seen p.counts.disk) 72 ≡ 1) × Holds (g.seen p.counts.disk) 121 (to_be_bytes w64 p.generation)
+first_of g p [] far was = absurd (far (sym was.reading.blocks))
+first_of g p (first ∷ contents) far was = first_here g p first contents was

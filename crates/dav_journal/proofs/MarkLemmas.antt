@@ -4,7 +4,7 @@ use Rattle.std.proofs.lemmas.Bool.{cases_lt}
 use Rattle.std.proofs.lemmas.List.{get_or_past, length-replicate}
 use Rattle.sqlite_disk.specs.Disk.{Holds, Mixed, Torn}
 use Rattle.dav_journal.specs.Block.{twice}
-use Rattle.dav_journal.specs.Mark.{AreMarks, IsBlank, IsMark, IsMarkPlace, NoneMarkedPast, mark_after}
+use Rattle.dav_journal.specs.Mark.{AreMarks, IsBlank, IsLastMark, IsMark, IsMarkPlace, NoneMarkedPast, mark_after}
 use Rattle.dav_journal.specs.Write.{KeepsFront}
 use Rattle.dav_journal.proofs.TwiceLemmas.{length-twice, twice_same}
 use Rattle.dav_journal.proofs.WriteLemmas.{zero_at}
@@ -206,3 +206,10 @@ fade_marks old new end marks f at is = let m = marks at is in record {
     | inr same ↦ elim (m.faint i low) [ inl lost ↦ inl (same ∙ lost) | inr kept ↦ inr (same ∙ kept) ]
   ];
 }
+
+-- where no mark is past a place, the last one isn't
+pub reached_low : (file : List ℕ) (place number end : ℕ) → number < 2 ^ 64 → IsMarkPlace place → IsLastMark file place number → NoneMarkedPast file end → number ≤ end
+reached_low file place number end small at last none = elim (cases_lt end number) [
+  | inl low ↦ none place at number small (last.some (omega (arith, low)))
+  | inr high ↦ high
+]

@@ -75,13 +75,14 @@ pub record HasReadElder {D : Type 0} (g : Ghosts D) (j : Journal D) (contents : 
   pub nothing : IsNoElder j.key (g.seen j.disk) j.end
 
 -- A file of the elder format was let go, whose first block had this content: its version is zeros,
--- and of the head of its first block bytes were lost.
+-- and of the head of its first block bytes were lost, but none of the length of that content.
 pub record IsLetGo (former file : List ℕ) : Type 0 where
   pub key : ℕ
   pub small : key < 2 ^ 64
   pub whole : 40 ≤ length file
   pub version : HasZeros file 0 8
   pub key_there : Holds file 8 (to_be_bytes w64 key)
+  pub length_there : Holds file 16 (to_be_bytes w64 (length former))
   pub faint : IsFaint file 16 (elder_head key 16 former)
   pub lost : ¬ Holds file 16 (elder_head key 16 former)
 

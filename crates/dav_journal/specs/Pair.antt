@@ -122,6 +122,13 @@ pub record HasReadPair {D : Type 0} (g : Ghosts D) (p : Pair D) (contents : List
   pub spare : IsSpare g p.spare p.generation
   pub none : contents ≡ [] → p.generation ≡ 0
 
+-- Blocks of these contents were read in the file that counts. Where there are some, they are all that
+-- it has: no block follows them, and no mark says that they reached further.
+pub record HasAllPair {D : Type 0} (g : Ghosts D) (p : Pair D) (contents : List (List ℕ))
+    : Type 0 where
+  pub reading : IsReadingPair g p contents
+  pub all : contents ≢ [] → HasReadPair g p contents
+
 -- The pair keeps these contents: whatever a crash now leaves has them, and no others. The other
 -- file has no block.
 pub record IsKeptPair {D : Type 0} (g : Ghosts D) (p : Pair D) (contents : List (List ℕ))

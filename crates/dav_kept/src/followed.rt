@@ -34,7 +34,7 @@ impl<J: Follows> Keeps for Followed<J> {
     ghost has_so_far = { λ f blocks. J.has_so_far (followed_by f) blocks };
 
     // More may come at any time.
-    ghost has_read = { λ f blocks. J.has_so_far (followed_by f) blocks };
+    ghost has_read = { λ f blocks. J.has_all (followed_by f) blocks };
 
     ghost kept = { λ _ _. ⊥ };
 
@@ -103,6 +103,8 @@ impl<J: Follows> Keeps for Followed<J> {
 impl<J: Follows> Follows for Followed<J> {
     ghost is_unturned = { λ f. J.is_unturned (followed_by f) };
 
+    ghost has_all = { λ f blocks. J.has_all (followed_by f) blocks };
+
     fn follow(&mut self, alloc: Global) -> Result<Option<Vec<u8>>, KeptError> {
         self.journal.follow(alloc)
     }
@@ -111,5 +113,7 @@ impl<J: Follows> Follows for Followed<J> {
         self.journal.is_anew()
     }
 
-    ghost read_is_so_far = { λ _ _ read. read };
+    ghost read_is_all = { λ _ _ read. read };
+
+    ghost all_is_so_far = { λ f blocks all. J.all_is_so_far (followed_by f) blocks all };
 }

@@ -1,6 +1,6 @@
 //! A pair of journals of dav_journal keeps blocks.
 ghost use Rattle.dav_journal.specs.Journal.{IsSynced, blocks_end, file_of};
-ghost use Rattle.dav_journal.specs.Pair.{HasReadPair, IsCleanPair, IsKeptPair, IsOwnPair, IsReadingPair, IsUnturned, PairLeaves, counting};
+ghost use Rattle.dav_journal.specs.Pair.{HasAllPair, HasReadPair, IsCleanPair, IsKeptPair, IsOwnPair, IsReadingPair, IsUnturned, PairLeaves, counting};
 ghost use Rattle.sqlite_disk.specs.Disk.{Holds};
 ghost use Rattle.dav_journal.proofs.BlockLemmas.{rests_recovers};
 ghost use Rattle.dav_journal.proofs.PairLemmas.{pair_alone};
@@ -97,6 +97,8 @@ impl<D: Disk + Drop> Keeps for Pair<D> {
 impl<D: Disk + Drop> Follows for Pair<D> {
     ghost is_unturned = { λ p. IsUnturned D.Disk p };
 
+    ghost has_all = { λ p blocks. HasAllPair D.Disk p blocks };
+
     fn follow(&mut self, alloc: Global) -> Result<Option<Vec<u8>>, KeptError> {
         Ok(Pair::follow(self, alloc)?)
     }
@@ -105,9 +107,10 @@ impl<D: Disk + Drop> Follows for Pair<D> {
         Ok(Pair::is_anew(self)?)
     }
 
-    ghost read_is_so_far = { λ p blocks read. record {
-      small = read.small;
-      reading = read.read.reading;
-      spare = read.spare;
+    ghost read_is_all = { λ p blocks read. record {
+      reading = record { small = read.small; reading = read.read.reading; spare = read.spare };
+      all = λ _. read;
     } };
+
+    ghost all_is_so_far = { λ p blocks all. all.reading };
 }

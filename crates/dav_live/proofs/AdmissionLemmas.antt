@@ -18,7 +18,7 @@ use Rattle.dav_server.specs.Target.{TargetNames}
 use Rattle.dav_server.specs.TargetCode.{GivesPath}
 use Rattle.dav_server.proofs.TargetLemmas.{one_outcome}
 use Rattle.dav_live.specs.Admission.{AdmissionView, IsDecision, IsTokenFor, HasLeaveIn, IsTurnedAway, LooksIn, misdirected, next, unknown, users_for}
-use Rattle.dav_live.specs.Hosts.{TellsFor, value_of}
+use Rattle.dav_live.specs.Hosts.{TellsFor, asked_host, value_of}
 use Rattle.dav_live.specs.Tokens.{token_text}
 use Rattle.dav_access.specs.Principals.{ShowsNoUser}
 use Rattle.dav_live.specs.declared.admission.Decision.{Decision}
@@ -35,17 +35,17 @@ module _ (a : AdmissionView) (tokens : ℕ) (came : Request) (bytes : List ℕ) 
       (subst (λ (r : Reason). IsTurnedAway a came bytes r (string_bytes x.user)) (sym reason_is) (subst (IsTurnedAway a came bytes reason) (sym user_is) away))
 
   pub for_another : (x : RefusedRequest) (hosts : List (List ℕ)) → a.hosts ≡ hosts → d ≡ Refused x → x.reason ≡ Misdirected → string_bytes x.user ≡ []
-      → TellsFor hosts (value_of (codes "host") came) false → IsDecision a tokens came bytes d
+      → TellsFor hosts (asked_host came) false → IsDecision a tokens came bytes d
   for_another x hosts same e reason_is user_is tells =
       turned_away x Misdirected [] e reason_is user_is
-      (misdirected (subst (λ (hs : List (List ℕ)). TellsFor hs (value_of (codes "host") came) false) (sym same) tells))
+      (misdirected (subst (λ (hs : List (List ℕ)). TellsFor hs (asked_host came) false) (sym same) tells))
 
   pub of_nobody : (x : RefusedRequest) (hosts : List (List ℕ)) (shown : List ℕ) → a.hosts ≡ hosts → d ≡ Refused x → x.reason ≡ Unauthorized
-      → string_bytes x.user ≡ shown → TellsFor hosts (value_of (codes "host") came) true
+      → string_bytes x.user ≡ shown → TellsFor hosts (asked_host came) true
       → ShowsNoUser (users_for a came) (value_of (codes "authorization") came) shown → IsDecision a tokens came bytes d
   of_nobody x hosts shown same e reason_is user_is tells shows =
       turned_away x Unauthorized shown e reason_is user_is
-      (unknown shown (subst (λ (hs : List (List ℕ)). TellsFor hs (value_of (codes "host") came) true) (sym same) tells) shows)
+      (unknown shown (subst (λ (hs : List (List ℕ)). TellsFor hs (asked_host came) true) (sym same) tells) shows)
 
 -- ---- leave
 

@@ -108,7 +108,7 @@ plain_reads_may_go_on a r plain = (
   λ closed_to. closed_to.1 (plain_is_safe r plain),
   record {
     takeable = λ why is. plain_is_taken a.hosts r why plain is;
-    sender = λ more. absurd (plain_is_short 65536 r plain more);
+    sender = λ more. absurd (plain_is_short 4096 r plain more);
   },
 )
 

@@ -19,7 +19,7 @@ use Rattle.dav_shards.specs.Shards.{IsElsewhere}
 use Rattle.dav_shards.specs.declared.parts.Part.{Part}
 use Rattle.dav_shards.specs.declared.parts.Part.TheVariants.{Target, Destination, Condition}
 use Rattle.dav_live.specs.Clock.{moment_after}
-use Rattle.dav_live.specs.Hosts.{TellsFor, value_of}
+use Rattle.dav_live.specs.Hosts.{TellsFor, asked_host, value_of}
 use Rattle.dav_live.specs.Numbered.{HasNumber}
 use Rattle.dav_live.specs.Rejections.{IsSafe}
 use Rattle.dav_live.specs.Tokens.{token_text}
@@ -74,7 +74,7 @@ IsMadeBy a r user = IsPrincipal (users_for a r) (value_of (codes "authorization"
 
 -- a request is for this server (RFC 9110, section 7.2), and is of this user, or of nobody
 pub record IsLetIn (a : AdmissionView) (r : Request) (user : Option (List ℕ)) : Type 0 where
-  pub host : TellsFor a.hosts (value_of (codes "host") r) true
+  pub host : TellsFor a.hosts (asked_host r) true
   pub principal : IsMadeBy a r user
 
 -- these bytes are the head that is kept of a request, and run
@@ -121,8 +121,8 @@ HasSwollenBody r body = TakesTree r.method × IsSwollen body
 -- part of it names what is elsewhere (RFC 9110, section 15.5.20; RFC 4918, sections 9.8.5, 9.9.4 and 10.4); it begins to write past what a body
 -- may have (RFC 9110, section 15.5.14). With it the user.
 pub data IsTurnedAway (a : AdmissionView) (r : Request) (body : List ℕ) : Reason → List ℕ → Type 0 where
-  misdirected : TellsFor a.hosts (value_of (codes "host") r) false → IsTurnedAway a r body Misdirected []
-  unknown : (shown : List ℕ) → TellsFor a.hosts (value_of (codes "host") r) true
+  misdirected : TellsFor a.hosts (asked_host r) false → IsTurnedAway a r body Misdirected []
+  unknown : (shown : List ℕ) → TellsFor a.hosts (asked_host r) true
       → ShowsNoUser (users_for a r) (value_of (codes "authorization") r) shown → IsTurnedAway a r body Unauthorized shown
   swollen : (user : Option (List ℕ)) → IsLetIn a r user → HasSwollenBody r body → IsTurnedAway a r body Swollen (unwrap_or user [])
   too_long : (user : Option (List ℕ)) → IsLetIn a r user → ¬ HasSwollenBody r body → HasManySlashes r → IsTurnedAway a r body TooLong (unwrap_or user [])

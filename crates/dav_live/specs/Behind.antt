@@ -26,13 +26,13 @@ use Rattle.dav_live.specs.declared.service.Service.{Service}
 -- ---- what is heard
 
 -- A service heard what another server kept since: the records of these blocks were played, each once and in order. Where that goes on with
--- what was heard before, these are the blocks that follow it, and the other one hasn't begun anew.
+-- what was heard before, these are all the blocks that follow it, as far as one was heard before, and the other one hasn't begun anew.
 pub record HearsKept {H J : Type 0} (answers : H → RequestView → Response → H → Type 0) (is_clean is_unturned : J → Type 0)
-    (has_so_far : J → List (List ℕ) → Type 0) (old : Service H J) (goes : Bool) (new : Service H J) : Type 0 where
+    (has_so_far has_all : J → List (List ℕ) → Type 0) (old : Service H J) (goes : Bool) (new : Service H J) : Type 0 where
   pub blocks : List (List ℕ)
   pub plays : PlaysRecords (answer_step answers) (concat blocks) (held_of old) (held_of new)
   pub reads : goes ≡ true → is_clean (journal_of (kept_of new)) → (before : List (List ℕ)) → has_so_far (journal_of (kept_of old)) before
-      → has_so_far (journal_of (kept_of new)) (before ++ blocks)
+      → has_all (journal_of (kept_of new)) (before ++ blocks)
   pub unturned : goes ≡ true → is_clean (journal_of (kept_of new)) → is_unturned (journal_of (kept_of new))
   pub stays : StaysAsKept (kept_of old) (kept_of new)
   pub clean : is_clean (journal_of (kept_of new)) → is_clean (journal_of (kept_of old))

@@ -9,7 +9,7 @@ use Rattle.dav_server.specs.Method.{GivesServed}
 use Rattle.dav_server.specs.TagLaws.{is_safe}
 use Rattle.dav_wire.specs.declared.answer.Rejection.{Rejection}
 use Rattle.dav_wire.specs.declared.answer.Rejection.TheVariants.{Forbidden, Misdirected, NotImplemented, UnsupportedMediaType}
-use Rattle.dav_live.specs.Hosts.{TellsFor, value_of}
+use Rattle.dav_live.specs.Hosts.{TellsFor, asked_host, value_of}
 
 -- ---- where a request comes from
 
@@ -79,8 +79,8 @@ pub data IsBodyRefused (r : Request) : Rejection → Type 0 where
 -- another host (RFC 9110, section 7.4), or by its method.
 pub data IsUntaken (hosts : List (List ℕ)) (r : Request) : Rejection → Type 0 where
   forged : IsForged r → IsUntaken hosts r Forbidden
-  misdirected : ¬ IsForged r → MayHaveMore 0 r → TellsFor hosts (value_of (codes "host") r) false → IsUntaken hosts r Misdirected
-  body : {why : Rejection} → ¬ IsForged r → MayHaveMore 0 r → TellsFor hosts (value_of (codes "host") r) true → IsBodyRefused r why
+  misdirected : ¬ IsForged r → MayHaveMore 0 r → TellsFor hosts (asked_host r) false → IsUntaken hosts r Misdirected
+  body : {why : Rejection} → ¬ IsForged r → MayHaveMore 0 r → TellsFor hosts (asked_host r) true → IsBodyRefused r why
       → IsUntaken hosts r why
 
 -- this says why no body is taken of a request for this host; none where one is

@@ -17,9 +17,9 @@ abbrev pub IsTakeable : AdmissionView → Request → Type 0
 IsTakeable a r = (why : Rejection) → ¬ IsUntaken a.hosts r why
 
 -- Nothing of the body is taken before it is known who sends it: a request that is taken by its head alone may have a body of more than
--- 65,536 bytes.
+-- 4,096 bytes.
 abbrev pub IsSenderAsked : AdmissionView → Request → Type 0
-IsSenderAsked a r = IsTakeable a r × MayHaveMore 65536 r
+IsSenderAsked a r = IsTakeable a r × MayHaveMore 4096 r
 
 -- a request is of a user, or of nobody, and what would be run of it has leave, or may look
 pub record HasSendersLeave (a : AdmissionView) (r : Request) : Type 0 where
@@ -48,7 +48,7 @@ pub data IsRejected (a : AdmissionView) (r : Request) : Rejection → List ℕ �
 -- The body of a request may be taken: none of these holds.
 pub record MayGoOn (a : AdmissionView) (r : Request) : Type 0 where
   pub takeable : IsTakeable a r
-  pub sender : MayHaveMore 65536 r → HasSendersLeave a r
+  pub sender : MayHaveMore 4096 r → HasSendersLeave a r
 
 -- this says why a request isn't taken, whoever waits; none where it may go on
 abbrev pub TellsRejected : AdmissionView → Request → Option Rejection → Type 0

@@ -29,6 +29,9 @@ pub trait Ends: Handles {
     /// Sees that so many bytes can still be stored, for who asks for the room. The state stays the same.
     fn see_room(&self, available: u64);
 
+    /// Takes the room for what a request may store. False where less is left than that: then none is taken. The state stays the same.
+    fn takes_room(&self, request: &AskedRequest<'_>) -> Result<bool, NoMemory>;
+
     /// Sees that these limits hold from now on, for who asks for the room: how much is at their paths and below them is counted once,
     /// with the next request. The state stays the same.
     fn see_limits(&self, limits: Vec<Limit>);

@@ -3,7 +3,7 @@ ghost use Rattle.std.specs.Prelude.{◌≡◌, ◌≢◌, ◌++◌, ℕ, List, [
 ghost use Rattle.std.specs.List.{flat_map};
 ghost use Rattle.std.specs.Io.KnownBytes.{Appends, Consumes, IsAtEnd};
 ghost use Rattle.dav_journal.specs.Journal.{blocks_end};
-ghost use Rattle.dav_journal.specs.Pair.{HasReadPair, IsCleanPair, IsReadingPair, IsUnturned, counting};
+ghost use Rattle.dav_journal.specs.Pair.{HasAllPair, HasReadPair, IsCleanPair, IsReadingPair, IsUnturned, counting};
 ghost use Rattle.dav_journal.specs.declared.pair.Pair.{Pair as PairValue};
 ghost use Rattle.dav_http.specs.Saved.{Loads};
 ghost use Rattle.dav_http.specs.Steps.{new_server};
@@ -53,7 +53,7 @@ impl<D: Disk + Drop> Follower<D> {
     ) -> Result<Follower<D>, OpenError>
         ensures run { IfOk result (λ f. (start : Option Snapshot) × (blocks : List (List ℕ))
             × (IsCleanBehind D.Disk (journal_of (kept_behind f)) → IsOpened IsAnswer Loads
-            (λ j bs. IsReadingPair D.Disk (followed_by j) bs)
+            (λ j bs. HasAllPair D.Disk (followed_by j) bs)
             (new_server (string_bytes settings.prefix)) start blocks (kept_behind f))) }
         ensures rest { IfOk result (λ f. (held_by (kept_behind f)).batch ≡ []) }
         ensures prefix { IfOk result (λ f. prefix_behind f ≡ string_bytes settings.prefix) }
@@ -76,7 +76,7 @@ impl<D: Disk + Drop> Follower<D> {
     pub fn open_anew(&mut self, one: D, other: D) -> Result<(), OpenError>
         ensures run { OnOk result ((start : Option Snapshot) × (blocks : List (List ℕ))
             × (IsCleanBehind D.Disk (journal_of (kept_behind self.new)) → IsOpened IsAnswer Loads
-            (λ j bs. IsReadingPair D.Disk (followed_by j) bs)
+            (λ j bs. HasAllPair D.Disk (followed_by j) bs)
             (new_server (prefix_behind self.old)) start blocks (kept_behind self.new))) }
         ensures rest { OnOk result ((held_by (kept_behind self.new)).batch ≡ []) }
         ensures failed { IfErr result (λ _. following_of self.new ≡ following_of self.old) }
@@ -96,6 +96,7 @@ impl<D: Disk + Drop> Follower<D> {
         ensures heard { IfOk result (λ goes. HearsKept IsAnswer
             (λ j. IsCleanBehind D.Disk j) (λ j. IsUnturned D.Disk (followed_by j))
             (λ j bs. IsReadingPair D.Disk (followed_by j) bs)
+            (λ j bs. HasAllPair D.Disk (followed_by j) bs)
             (following_of self.old).keeper goes (following_of self.new).keeper) }
         ensures turns { turns_behind self.new ≡ turns_behind self.old }
         ensures fault { result ≢ Err Fault.Ended }
@@ -141,6 +142,7 @@ impl<D: Disk + Drop> Follower<D> {
         ensures heard { IfOk result (λ goes. HearsKept IsAnswer
             (λ j. IsCleanBehind D.Disk j) (λ j. IsUnturned D.Disk (followed_by j))
             (λ j bs. IsReadingPair D.Disk (followed_by j) bs)
+            (λ j bs. HasAllPair D.Disk (followed_by j) bs)
             (following_of self.old).keeper goes (following_of self.new).keeper) }
         ensures turns { turns_behind self.new ≡ turns_behind self.old }
         ensures ended { result ≡ Err Fault.Ended → (self.new ≡ self.old)

@@ -4,7 +4,7 @@ ghost use Rattle.std.specs.Bool.{Decides};
 ghost use Rattle.std.specs.List.{list_any};
 ghost use Rattle.dav_headers.specs.Cut.{IsCut};
 ghost use Rattle.dav_server.specs.Head.{is_same_name};
-ghost use Rattle.dav_live.specs.Hosts.{AreDigits, IsHostOf, TellsFor, TellsNamed, own_names, value_of};
+ghost use Rattle.dav_live.specs.Hosts.{AreDigits, IsHostOf, TellsFor, TellsNamed, asked_host, authority_after, authority_in, own_names, place_of, up_to_slash};
 ghost use Rattle.dav_live.specs.Rejections.{HasAuthority, IsOfHost, IsOwnOrigin};
 
 use dav_http::Head;
@@ -70,12 +70,63 @@ fn names_host(authority: &[u8], hosts: &[String]) -> bool
     is_known(host_of(authority), hosts)
 }
 
-/// Whether a request is for one of these hosts, or for this machine by its own names; one without a Host is (RFC 9112, section
-/// 3.2).
-pub fn is_for(head: &Head<'_>, hosts: &[String]) -> bool
-    ensures { TellsFor (map string_bytes hosts.now) (value_of (codes "host") head.now) result }
+// Where a byte stands first in a text.
+fn place_of(byte: u8, text: &[u8]) -> Option<usize>
+    ensures { result ≡ place_of byte text.now }
 {
-    match head.value("host") {
+    text.iter().position(|b| *b == byte)
+}
+
+// What comes before the first slash of a text.
+fn up_to_slash(text: &[u8]) -> &[u8]
+    ensures { result.now ≡ up_to_slash text.now }
+{
+    match place_of(b'/', text) {
+        Some(place) => &text[..place],
+        None => text,
+    }
+}
+
+// The authority that follows two slashes.
+fn authority_after(text: &[u8]) -> Option<&[u8]>
+    ensures { option_map (λ a. a.now) result ≡ authority_after text.now }
+{
+    if text.starts_with(b"//") {
+        Some(up_to_slash(&text[2..]))
+    } else {
+        None
+    }
+}
+
+// The authority of a target in absolute form (RFC 9112, section 3.2.2).
+fn authority_in(target: &[u8]) -> Option<&[u8]>
+    ensures { option_map (λ a. a.now) result ≡ authority_in target.now }
+{
+    if target.starts_with(b"/") {
+        return None;
+    }
+    match place_of(b':', target) {
+        Some(place) => authority_after(&target[place + 1..]),
+        None => None,
+    }
+}
+
+// For which host a request is.
+fn asked_host<'h>(head: &'h Head<'_>) -> Option<&'h [u8]>
+    ensures { option_map (λ v. v.now) result ≡ asked_host head.now }
+{
+    match authority_in(head.target().as_bytes()) {
+        Some(authority) => Some(authority),
+        None => head.value("host"),
+    }
+}
+
+/// Whether a request is for one of these hosts, or for this machine by its own names: by the authority of a target in absolute form,
+/// and else by its Host; one without a Host is (RFC 9112, sections 3.2 and 3.2.2).
+pub fn is_for(head: &Head<'_>, hosts: &[String]) -> bool
+    ensures { TellsFor (map string_bytes hosts.now) (asked_host head.now) result }
+{
+    match asked_host(head) {
         Some(value) => names_host(value, hosts),
         None => true,
     }

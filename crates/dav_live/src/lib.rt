@@ -19,6 +19,7 @@ mod live;
 mod machine;
 mod page;
 mod rejection;
+mod room;
 mod service;
 mod settings;
 mod swollen;

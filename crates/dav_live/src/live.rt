@@ -288,13 +288,13 @@ fn live_of<D: Disk + Drop>(
     })
 }
 
-// The limits of the connections: of each, heads of 16 KiB, and no request is read while more than 64 KiB wait to be sent.
+// The limits of the connections: of each, heads of 16 KiB, and no request is read while more than 16 KiB wait to be sent.
 pub(crate) fn config_of<J: Keeps + Drop>(service: &Service<Machine, J>) -> TurnsConfig {
     let connection = Config {
         limits: Limits::default(),
         max_body_len: usize::try_from(service.most_body()).unwrap_or(usize::MAX),
         max_tree_len: MOST_XML,
-        max_pending: 65536,
+        max_pending: 16_384,
     };
     TurnsConfig {
         connection,

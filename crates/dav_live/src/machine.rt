@@ -14,6 +14,7 @@ ghost use Rattle.dav_live.specs.Answers.{AsksToSee, IsAnswer, IsSentFor, barred_
 
 use crate::ends::Ends;
 use crate::page;
+use crate::room::{Room, needed_for, needed_for_copies};
 use bytes::Bytes;
 use dav_access::{Limit, Measure, Rules};
 use dav_confined::leave::Asked;
@@ -42,8 +43,8 @@ use std::{mem, str};
 pub struct Machine {
     alloc: Global,
     handler: Handler,
-    /// How many bytes can still be stored, as the front told last; 0 as long as it told nothing.
-    available: Cell<u64>,
+    /// How many bytes can still be stored.
+    room: Room,
     /// The limits that hold from the next request on, where these are others.
     told: Cell<Option<Vec<Limit>>>,
     /// The limits that hold, for what is told of the room.
@@ -103,6 +104,11 @@ fn propfind_in(head: &[u8]) -> Option<Head<'_>>
         }
         None => None,
     }
+}
+
+// Whether a method stores nothing: what it changes is there already.
+fn stores_nothing(method: &[u8]) -> bool {
+    method == b"DELETE".as_slice() || method == b"MOVE".as_slice() || is_unlock(method)
 }
 
 // Whether a method is UNLOCK.
@@ -186,7 +192,7 @@ impl Machine {
         Machine {
             alloc,
             handler,
-            available: Cell::new(0),
+            room: Room::new(),
             told: Cell::new(None),
             limits: Vec::new(alloc),
             watches: Watches::new(alloc),
@@ -421,14 +427,37 @@ impl Machine {
                 }
             }
         }
-        Ok((place, least.min(self.available.get())))
+        Ok((place, least.min(self.room.left())))
+    }
+
+    // How many bytes a COPY with this head takes.
+    fn copied_by(&self, head: &[u8]) -> Result<u64, NoMemory> {
+        let Some(asked) = Asked::read(self.alloc, head, self.handler.prefix())? else {
+            return Ok(0);
+        };
+        let there = self
+            .watches
+            .amount_at(self.alloc, &self.handler, &asked.path)?;
+        Ok(needed_for_copies(there.files, there.bytes))
+    }
+
+    // How many bytes a request takes at most of what can still be stored.
+    fn needed_by(&self, request: &Request<'_>) -> Result<u64, NoMemory> {
+        let method = method_of(request.head);
+        if method == b"COPY".as_slice() {
+            self.copied_by(request.head)
+        } else if stores_nothing(method) {
+            Ok(0)
+        } else {
+            Ok(needed_for(request.body.len() as u64))
+        }
     }
 
     // The server with the room that a request with this head is told of, where it tells of room.
     fn store_for(&self, head: &[u8]) -> Result<Store<'_>, NoMemory>
         ensures { IfOk result (λ store. store.server.now.server ≡ self.now) }
     {
-        let (mut place, mut available) = (None, self.available.get());
+        let (mut place, mut available) = (None, self.room.left());
         if !self.limits.is_empty() && method_of(head) == b"PROPFIND".as_slice() {
             if let Some(asked) = Asked::read(self.alloc, head, self.handler.prefix())? {
                 (place, available) = self.room_at(&asked.path)?;
@@ -732,7 +761,11 @@ impl Ends for Machine {
     }
 
     fn see_room(&self, available: u64) {
-        self.available.set(available);
+        self.room.hear(available);
+    }
+
+    fn takes_room(&self, request: &Request<'_>) -> Result<bool, NoMemory> {
+        Ok(self.room.take(self.needed_by(request)?))
     }
 
     ghost looks = { λ rules server q sent. IsLook rules server q sent };

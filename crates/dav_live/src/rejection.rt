@@ -16,7 +16,7 @@ use dav_wire::Rejection;
 use std::str;
 
 /// The most bytes of a body that are taken of nobody who is known.
-const MOST_UNKNOWN: u64 = 65_536;
+const MOST_UNKNOWN: u64 = 4_096;
 
 // Whether bytes begin with this name, in letters of either case.
 fn begins_with(bytes: &[u8], name: &[u8]) -> bool
@@ -111,7 +111,7 @@ fn may_have_more(head: &Head<'_>, most: u64) -> bool
 
 /// Whether a request may have a body so long that none of it is taken before it is known who makes the request.
 pub fn may_be_long(head: &Head<'_>) -> bool
-    ensures { Decides result (spec.MayHaveMore 65536 head.now) }
+    ensures { Decides result (spec.MayHaveMore 4096 head.now) }
 {
     may_have_more(head, MOST_UNKNOWN)
 }

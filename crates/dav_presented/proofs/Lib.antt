@@ -2,6 +2,7 @@ pub mod PartLemmas
 pub mod FieldLemmas
 pub mod TreeLemmas
 pub mod MissingLemmas
+pub mod NameSetLemmas
 pub mod NameLemmas
 pub mod PreferenceLemmas
 pub mod DotLemmas

@@ -3,6 +3,7 @@ pub mod Verdict
 pub mod Parts
 pub mod Fields
 pub mod Names
+pub mod NameSets
 pub mod Missing
 pub mod Told
 pub mod Types

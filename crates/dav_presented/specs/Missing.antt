@@ -1,6 +1,6 @@
 -- What a PROPFIND that names properties is told of those that a resource doesn't have (RFC 4918, sections 9.1, 14.22 and 14.24).
-use Rattle.std.specs.Prelude.{ℕ, ◌<◌, ◌++◌, ◌&&◌, ◌||◌, Bool, List, [], ◌∷◌, length, map, codes, bytes_eq, if◌then◌else◌, IsSomeAnd, Option, Some, None}
-use Rattle.std.specs.List.{list_any}
+use Rattle.std.specs.Prelude.{ℕ, ◌<◌, ◌++◌, ◌&&◌, ◌||◌, Bool, List, [], ◌∷◌, length, map, codes, bytes_eq, if◌then◌else◌, not, IsSomeAnd, Option, Some, None}
+use Rattle.std.specs.List.{list_any, filter}
 use Rattle.dav_core.specs.Element.{ElementTree, element, text, no_trees, trees, name_of, prefix_of, namespace_of, children_of, child_elements, with_child, with_children}
 use Rattle.dav_presented.specs.Names.{is_same, is_dav}
 
@@ -48,6 +48,19 @@ one_more response found e = if is_told e response || list_any (λ f. is_same e f
 abbrev pub missing_after : ElementTree → List ElementTree → List ElementTree → List ElementTree
 missing_after response found [] = found
 missing_after response found (e ∷ es) = missing_after response (one_more response found e) es
+
+-- The names of some elements, each once, where it stands first, with nothing in it (RFC 4918, section 14.18).
+abbrev pub named_after : List ElementTree → List ElementTree → List ElementTree
+named_after found [] = found
+named_after found (e ∷ es) = named_after (if list_any (λ f. is_same e f) found then found else found ++ bare e ∷ []) es
+
+-- The same from the first of them on (RFC 4918, section 14.18).
+abbrev pub named_once : List ElementTree → List ElementTree
+named_once es = named_after [] es
+
+-- Those of some names that a response doesn't tell (RFC 4918, section 14.24).
+abbrev pub untold : ElementTree → List ElementTree → List ElementTree
+untold response es = filter (λ e. not (is_told e response)) es
 
 -- ---- what is sent
 

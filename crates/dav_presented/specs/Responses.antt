@@ -1,5 +1,5 @@
 -- The responses of a multistatus, and how their parts are written (RFC 4918, sections 14.16, 14.22 and 14.24).
-use Rattle.std.specs.Prelude.{ℕ, Bool, List, [], ◌∷◌, map, codes, if◌then◌else◌}
+use Rattle.std.specs.Prelude.{ℕ, List, [], ◌∷◌, map, codes, if◌then◌else◌}
 use Rattle.dav_core.specs.Element.{ElementTree, text, children_of, with_children}
 use Rattle.dav_presented.specs.Names.{is_dav}
 use Rattle.dav_presented.specs.Missing.{dav_element}

@@ -1,20 +1,21 @@
 //! The properties that are missing in the responses of a multistatus (RFC 4918, sections 9.1 and 14.24).
-ghost use Rattle.std.specs.Prelude.{◌≡◌, ◌↔◌, ◌∷◌, [], codes, length, map, nat_lt, option_map, IfOk, IsOkAnd, IsTrue, Some};
+ghost use Rattle.std.specs.Prelude.{◌≡◌, ◌↔◌, ◌∷◌, [], codes, length, map, nat_lt, option_map, IfOk, OnOk, IsOkAnd, IsTrue, Some, ◌||◌};
 ghost use Rattle.std.specs.List.{list_any};
-ghost use Rattle.dav_core.specs.Element.{child_elements, named_by, text, with_child, with_children};
+ghost use Rattle.dav_core.specs.Element.{ElementTree, child_elements, named_by, text, with_child, with_children};
 ghost use Rattle.dav_core.specs.ElementView.{node_tree};
 ghost use Rattle.dav_presented.specs.Missing as spec;
-ghost use Rattle.dav_presented.specs.Names as name;
+ghost use Rattle.dav_presented.specs.NameSets.{has};
 ghost use Rattle.dav_presented.specs.Told.{TellsAll};
 
+use crate::names::set::{Name, add_name, has_name};
 use crate::names::{is_dav, is_same};
 use crate::responses::{Change, each_response, propstat_of, with_child};
 use dav_core::element::Element;
 use dav_core::errors::NoMemory;
 use std::alloc::Global;
+use std::collections::BTreeSet;
 
-/// The most names that a PROPFIND is answered for: what `answered` does grows with their number times
-/// that of the properties that are told, in each response.
+/// The most names that a PROPFIND is answered for: each response may tell of each that it lacks.
 pub const MOST_NAMES: usize = 1000;
 
 // The element that names properties, in the body of a PROPFIND.
@@ -94,18 +95,6 @@ pub(crate) fn is_told(property: &Element, response: &Element) -> bool
     false
 }
 
-// Whether a property is among some.
-fn is_among(property: &Element, found: &[Element]) -> bool
-    ensures { result ≡ list_any (λ f. name.is_same property.now f) found.now }
-{
-    for one in found {
-        if is_same(property, one) {
-            return true;
-        }
-    }
-    false
-}
-
 // An element of a property's name, with nothing in it.
 fn bare(alloc: Global, property: &Element) -> Result<Element, NoMemory>
     ensures { IfOk result (λ e. e ≡ spec.bare property.now) }
@@ -119,37 +108,74 @@ fn bare(alloc: Global, property: &Element) -> Result<Element, NoMemory>
     })
 }
 
-// What is missing in a response, after one more name.
-fn one_more(
-    alloc: Global,
-    response: &Element,
-    found: Vec<Element>,
-    property: &Element,
-) -> Result<Vec<Element>, NoMemory>
-    ensures { IfOk result (λ after.
-        after.items ≡ spec.one_more response.now found.items property.now) }
+// The properties that a `prop` names, each once and with nothing in it.
+fn named_once(alloc: Global, prop: &Element) -> Result<Vec<Element>, NoMemory>
+    ensures { IfOk result (λ once. once.items ≡ spec.named_once (child_elements prop.now)) }
 {
-    if is_told(property, response) {
-        return Ok(found);
+    let mut seen = BTreeSet::new(alloc);
+    let mut once = Vec::new(alloc);
+    for property in prop.child_elems() {
+        if !has_name(&seen, property) {
+            add_name(&mut seen, property)?;
+            once.push(bare(alloc, property)?)?;
+        }
     }
-    if is_among(property, &found) {
-        return Ok(found);
-    }
-    let mut found = found;
-    found.push(bare(alloc, property)?)?;
-    Ok(found)
+    Ok(once)
 }
 
-// What is missing in a response of the properties that a `prop` names.
-fn missing_in(alloc: Global, prop: &Element, response: &Element) -> Result<Vec<Element>, NoMemory>
-    ensures { IfOk result (λ missing. missing.items
-        ≡ spec.missing_after response.now [] (child_elements prop.now)) }
+// Adds the names that are told by a `prop`.
+fn add_prop<'a>(names: &mut BTreeSet<Name<'a>>, prop: &'a Element) -> Result<(), NoMemory>
+    ensures { OnOk result ((e : ElementTree)
+        → has e names.new ≡ (has e names.old || spec.is_in_prop e prop.now)) }
 {
-    let mut found = Vec::new(alloc);
     for property in prop.child_elems() {
-        found = one_more(alloc, response, found, property)?;
+        add_name(names, property)?;
     }
-    Ok(found)
+    Ok(())
+}
+
+// Adds the names that are told by a `propstat`.
+fn add_propstat<'a>(names: &mut BTreeSet<Name<'a>>, propstat: &'a Element) -> Result<(), NoMemory>
+    ensures { OnOk result ((e : ElementTree)
+        → has e names.new ≡ (has e names.old || spec.is_in_propstat e propstat.now)) }
+{
+    for child in propstat.child_elems() {
+        if is_dav(child, "prop") {
+            add_prop(names, child)?;
+        }
+    }
+    Ok(())
+}
+
+// The names that a response tells.
+fn told_names<'a>(alloc: Global, response: &'a Element) -> Result<BTreeSet<Name<'a>>, NoMemory>
+    ensures { IfOk result (λ names. (e : ElementTree) → has e names ≡ spec.is_told e response.now) }
+{
+    let mut names = BTreeSet::new(alloc);
+    for child in response.child_elems() {
+        if is_dav(child, "propstat") {
+            add_propstat(&mut names, child)?;
+        }
+    }
+    Ok(names)
+}
+
+// What is missing in a response of the properties that are asked for, each once.
+fn missing_in<'a>(
+    alloc: Global,
+    asked: &'a [Element],
+    response: &'a Element,
+) -> Result<Vec<Element>, NoMemory>
+    ensures { IfOk result (λ missing. missing.items ≡ spec.untold response.now asked.now) }
+{
+    let told = told_names(alloc, response)?;
+    let mut missing = Vec::new(alloc);
+    for property in asked {
+        if !has_name(&told, property) {
+            missing.push(property.clone()?)?;
+        }
+    }
+    Ok(missing)
 }
 
 // Properties that aren't there, under 404.
@@ -159,32 +185,40 @@ fn not_found(alloc: Global, missing: Vec<Element>) -> Result<Element, NoMemory>
     propstat_of(alloc, "HTTP/1.1 404 Not Found", missing)
 }
 
-// A response with what is missing in it.
-fn completed(alloc: Global, prop: &Element, response: Element) -> Result<Element, NoMemory>
-    ensures { IfOk result (λ e. e ≡ spec.completed (child_elements prop.now) response) }
+// A response with what is missing in it of the properties that are asked for, each once.
+fn completed(alloc: Global, asked: &[Element], response: Element) -> Result<Element, NoMemory>
+    ensures { IfOk result (λ e.
+        e ≡ spec.with_missing response (spec.untold response asked.now)) }
 {
-    let missing = missing_in(alloc, prop, &response)?;
+    let missing = missing_in(alloc, asked, &response)?;
     if missing.is_empty() {
         return Ok(response);
     }
     with_child(Ok(response), not_found(alloc, missing))
 }
 
-// The change by which each response tells what is missing of the properties that a `prop` names.
+// The change by which each response tells what is missing of the properties that are asked for.
 #[derive(Drop)]
 struct Completing<'a> {
-    prop: &'a Element,
+    asked: &'a [Element],
 }
 
 impl<'a> Change for Completing<'a> {
-    ghost use Rattle.dav_core.specs.Element.{child_elements};
-    ghost use Rattle.dav_presented.specs.Missing.{completed};
+    ghost use Rattle.dav_presented.specs.Missing.{with_missing, untold};
 
-    ghost changed = { λ c response. completed (child_elements c.prop.now) response };
+    ghost changed = { λ c response. with_missing response (untold response c.asked.now) };
 
     fn change(&self, alloc: Global, response: Element) -> Result<Element, NoMemory> {
-        completed(alloc, self.prop, response)
+        completed(alloc, self.asked, response)
     }
+}
+
+// The multistatus that is sent to who asks for the properties that a `prop` names.
+fn answered_to_names(alloc: Global, prop: &Element, told: Element) -> Result<Element, NoMemory>
+    ensures { IfOk result (λ sent. sent ≡ spec.completed_tree (Some prop.now) told) }
+{
+    let asked = named_once(alloc, prop)?;
+    each_response(alloc, &Completing { asked: &asked }, told)
 }
 
 // The multistatus that is sent.
@@ -193,7 +227,7 @@ fn answered_by(alloc: Global, prop: Option<&Element>, told: Element) -> Result<E
         sent ≡ spec.completed_tree (option_map (λ e. e.now) prop.entry) told) }
 {
     match prop {
-        Some(prop) => each_response(alloc, &Completing { prop }, told),
+        Some(prop) => answered_to_names(alloc, prop, told),
         None => Ok(told),
     }
 }

@@ -3,6 +3,8 @@ ghost use Rattle.std.specs.Prelude.{◌≡◌, [], bytes_eq, codes, option_map};
 ghost use Rattle.std.specs.Option.{option_copied};
 ghost use Rattle.dav_presented.specs.Names as spec;
 
+pub(crate) mod set;
+
 use dav_core::element::Element;
 use dav_xml::known;
 

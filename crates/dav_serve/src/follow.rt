@@ -66,6 +66,7 @@ pub fn follow(rt: &HostRuntime, alloc: Global) -> Result<Fault, Refusal> {
         match follower.listen(&mut pipe, &mut reader) {
             Ok(true) => {}
             Ok(false) => try_anew(rt, alloc, folder, &mut follower),
+            Err(Fault::Disk) => open_again(rt, alloc, &state, &mut follower)?,
             Err(fault) => return Ok(fault),
         }
         match follower.answer(&mut pipe, &mut orders, &mut writer, &mut watcher) {
@@ -156,6 +157,31 @@ fn try_anew(rt: &HostRuntime, alloc: Global, folder: &str, follower: &mut Follow
     }
 }
 
+// Opens the files anew where what the other server kept couldn't be read: what is damaged is told as at a start. Again where that server may
+// just have been writing what was read.
+fn open_again(
+    rt: &HostRuntime,
+    alloc: Global,
+    state: &Followed,
+    follower: &mut Follower<Shown>,
+) -> Result<(), Refusal> {
+    let mut opened = open_anew(rt, alloc, state.folder.as_str(), follower);
+    for _ in 0..TIMES {
+        if !matches!(
+            opened,
+            Err(OpenError::Foreign | OpenError::Damaged(_) | OpenError::Disk)
+        ) {
+            break;
+        }
+        thread::sleep(rt, Duration::from_millis(REST));
+        opened = open_anew(rt, alloc, state.folder.as_str(), follower);
+    }
+    match opened {
+        Ok(()) => Ok(()),
+        Err(error) => Err(refused_of(alloc, state, error)?),
+    }
+}
+
 // Takes the place of the server that was followed, whose files these are.
 fn take_over(
     rt: &HostRuntime,
@@ -187,7 +213,7 @@ fn take_over(
     }
 }
 
-// Hears what the other server kept last.
+// Hears what the other server kept last. Where that can't be read the files are opened anew, which tells why.
 fn hear_last(
     rt: &HostRuntime,
     alloc: Global,
@@ -196,7 +222,7 @@ fn hear_last(
 ) -> Result<(), OpenError> {
     match follower.hear() {
         Ok(true) => Ok(()),
-        Ok(false) => open_anew(rt, alloc, folder, follower),
+        Ok(false) | Err(Fault::Disk) => open_anew(rt, alloc, folder, follower),
         Err(Fault::Memory) => Err(OpenError::Memory),
         Err(_) => Err(OpenError::Disk),
     }

@@ -23,7 +23,7 @@ mod rest;
 mod ruled;
 mod watcher;
 
-use begun::{note_begun, see_begun};
+use begun::{note_begun, see_begun, see_blocks};
 use claim::{Claim, Owned};
 use dav_claim::Claimed;
 use dav_live::{Fault, Lists, ListsError, Live};
@@ -140,6 +140,7 @@ fn open_live(
         ..
     } = options;
     let claim = Claim::take(rt, alloc, folder.as_str(), waits)?;
+    see_blocks(rt, alloc, folder.as_str())?;
     let (one, other) = owned(alloc, folder.as_str(), &claim, files)?;
     let prefix = settings.prefix.clone()?;
     match Live::open(alloc, one, other, lists, settings) {

@@ -22,3 +22,4 @@ pub mod Subtrees
 pub mod PartsOf
 pub mod Passing
 pub mod Used
+pub mod KeyOrder

@@ -168,9 +168,7 @@ fn properties_after(
         × (r.1.items ≡ map (λ patch. (200, without_xml (patched_property patch)))
         (map patch_of patches.items))) }
 {
-    let mut properties = properties.clone()?;
-    let answers = properties.patch(alloc, patches)?;
-    Ok((properties, answers))
+    properties.patched(alloc, patches)
 }
 
 impl MemFs {

@@ -1,14 +1,17 @@
 //! Dead properties in memory (RFC 4918, section 4).
-ghost use Rattle.std.specs.Prelude.{◌≡◌, ◌∷◌, ◌++◌, [], IfOk, OnOk, OnErr, not, Option, option_map, option_copied, position, map, string_bytes};
-ghost use Rattle.std.specs.FinMap.{find, put};
+ghost use Rattle.std.specs.Prelude.{◌≡◌, ◌∷◌, ◌++◌, [], IfOk, OnOk, OnErr, not, Option, option_map, option_copied, position, map, string_bytes, T};
+ghost use Rattle.std.specs.FinMap.{find, put, is_sorted};
 ghost use Rattle.std.specs.List.{filter};
 ghost use Rattle.std.specs.Ordering.{is_le};
 ghost use Rattle.std.specs.Option.{option_and_then};
 ghost use Rattle.dav_core.specs.Element.{prefix_of};
-ghost use Rattle.dav_core.specs.Property.{key_cmp, is_same_key, property_key, patched_by, patch_of, without_xml, shown_property};
+ghost use Rattle.dav_core.specs.Property.{key_cmp, is_same_key, property_key, patched, patched_by, patch_of, without_xml, shown_property};
+ghost use Rattle.dav_store.specs.Answered.{answer_to};
 
+mod order;
 mod passing;
 mod saved;
+mod tree;
 
 use dav_core::davprop::DavProp;
 use dav_core::element::Element;
@@ -76,6 +79,15 @@ impl Key {
         first.then(self.name.as_bytes().cmp(&other.name.as_bytes()))
     }
 
+    /// Compares this with the key of a property.
+    pub fn compare_to(&self, property: &DavProp) -> Ordering
+        ensures { result ≡ key_cmp self.now (property_key property.now) }
+    {
+        let namespace = namespace_of(property).as_bytes();
+        let first = self.namespace.as_bytes().cmp(&namespace);
+        first.then(self.name.as_bytes().cmp(&property.name.as_bytes()))
+    }
+
     /// Whether this is the key of the property.
     pub fn is_of(&self, property: &DavProp) -> bool
         ensures { result ≡ is_same_key (property_key property.now) self.now }
@@ -88,10 +100,13 @@ impl Key {
     }
 }
 
-/// Properties in order of their keys, each with its element where it has one.
+/// Properties in order of their keys, each with its element where it has one. Where they were read
+/// they may be in any order.
 #[derive(Drop)]
 pub struct Properties {
     entries: Vec<(Key, Option<Element>)>,
+    /// Whether they are in order of their keys, each key once.
+    are_rising: bool,
 }
 
 impl Model for Properties {
@@ -103,6 +118,13 @@ impl Model for Properties {
     ghost coded = { coded_properties };
 
     ghost view = { λ p. p.entries.items };
+
+    ghost use Rattle.std.specs.Prelude.{T};
+    ghost use Rattle.std.specs.Bool.{Decides};
+    ghost use Rattle.std.specs.FinMap.{is_sorted};
+    ghost use Rattle.dav_core.specs.Property.{key_cmp};
+
+    ghost invariant = { λ p. Decides p.are_rising (T (is_sorted key_cmp p.entries.items)) };
 }
 
 impl Clone for Properties {
@@ -113,6 +135,7 @@ impl Clone for Properties {
     fn clone(&self) -> Result<Properties, NoMemory> {
         Ok(Properties {
             entries: self.entries.clone()?,
+            are_rising: self.are_rising,
         })
     }
 }
@@ -141,6 +164,20 @@ fn stored_in<'a>(
     match place(entries, property) {
         None => None,
         Some(i) => Some(&entries[i].1),
+    }
+}
+
+// What is stored for a property, where the keys rise: in the time of a search in order.
+fn stored_in_order<'a>(
+    entries: &'a [(Key, Option<Element>)],
+    property: &DavProp,
+) -> Option<&'a Option<Element>>
+    requires { T (is_sorted key_cmp entries.now) }
+    ensures { option_copied result ≡ find key_cmp (property_key property.now) entries.now }
+{
+    match entries.binary_search_by(|e| e.0.compare_to(property)) {
+        Ok(i) => Some(&entries[i].1),
+        Err(_) => None,
     }
 }
 
@@ -191,6 +228,24 @@ fn apply(
     remove_property(entries, property);
     property.xml = None;
     Ok(())
+}
+
+// Properties in any order after changes that are made in their order, and the answer to each.
+fn patched_in_any_order(
+    alloc: Global,
+    entries: &Vec<(Key, Option<Element>)>,
+    patches: Vec<(bool, DavProp)>,
+) -> Result<(Vec<(Key, Option<Element>)>, Vec<(StatusCode, DavProp)>), NoMemory>
+    ensures { IfOk result (λ r. (r.0.items ≡ patched (map patch_of patches.items) entries.now.items)
+        × (r.1.items ≡ map answer_to patches.items)) }
+{
+    let mut entries = entries.clone()?;
+    let mut answers = Vec::new(alloc);
+    for (set, mut property) in patches {
+        apply(alloc, &mut entries, set, &mut property)?;
+        answers.push((StatusCode::OK, property))?;
+    }
+    Ok((entries, answers))
 }
 
 // The prefix of a property's element.
@@ -252,6 +307,7 @@ impl Properties {
     {
         Properties {
             entries: Vec::new(alloc),
+            are_rising: true,
         }
     }
 
@@ -259,25 +315,36 @@ impl Properties {
     pub fn get(&self, property: &DavProp) -> Option<&Option<Element>>
         ensures { option_copied result ≡ find key_cmp (property_key property.now) self.now }
     {
-        stored_in(&self.entries, property)
+        if self.are_rising {
+            stored_in_order(&self.entries, property)
+        } else {
+            stored_in(&self.entries, property)
+        }
     }
 
-    /// Makes changes in their order, and answers each with its property, without its element. Where memory runs out,
-    /// some of the changes may have been made.
-    pub fn patch(
-        &mut self,
+    /// The properties after changes that are made in their order, and the answer to each change: its
+    /// property, without its element.
+    pub fn patched(
+        &self,
         alloc: Global,
         patches: Vec<(bool, DavProp)>,
-    ) -> Result<Vec<(StatusCode, DavProp)>, NoMemory>
-        ensures { IfOk result (λ answers. (answers.items ≡ map answer_to patches.items)
-            × (self.new ≡ patched (map patch_of patches.items) self.old)) }
+    ) -> Result<(Properties, Vec<(StatusCode, DavProp)>), NoMemory>
+        ensures { IfOk result (λ r. (r.0 ≡ patched (map patch_of patches.items) self.now)
+            × (r.1.items ≡ map answer_to patches.items)) }
     {
-        let mut answers = Vec::new(alloc);
-        for (set, mut property) in patches {
-            apply(alloc, &mut self.entries, set, &mut property)?;
-            answers.push((StatusCode::OK, property))?;
-        }
-        Ok(answers)
+        let (entries, answers) = if self.are_rising {
+            tree::patched(alloc, &self.entries, patches)?
+        } else {
+            patched_in_any_order(alloc, &self.entries, patches)?
+        };
+        let are_rising = saved::are_rising(&entries);
+        Ok((
+            Properties {
+                entries,
+                are_rising,
+            },
+            answers,
+        ))
     }
 
     /// All properties, in order, with their elements or without.

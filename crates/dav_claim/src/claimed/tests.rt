@@ -8,7 +8,7 @@ use std::process::Abort;
 use std::test::Fail;
 
 /// How many looks find the claim, and what is asked of a disk of two bytes then: `r` a read, `l` its length, `w` a write behind its
-/// end, `c` another length, `s` a sync; then what each was answered by, `+` or `-`, or `.` where the disk may not be used any more; how
+/// end, `W` one of 65,536 bytes, `c` another length, `s` a sync; then what each was answered by, `+` or `-`, or `.` where the disk may not be used any more; how
 /// many looks there were, and how many bytes the disk has.
 const CALLS: &str = "
 9 r -> + 0 2
@@ -19,7 +19,7 @@ const CALLS: &str = "
 9 w s w r w -> +++++ 3 5
 9 w s w l w s -> ++++++ 4 5
 9 c s -> ++ 2 9
-9 c c w s -> ++++ 2 10
+9 c c w s -> ++++ 3 10
 9 s s -> ++ 2 2
 0 r l -> ++ 0 2
 0 w -> - 1 2
@@ -32,6 +32,12 @@ const CALLS: &str = "
 1 w r c s -> ++-- 3 3
 2 w s w r w -> ++++- 3 4
 2 w s w s -> +++- 3 4
+9 W W w W s -> +++++ 4 196611
+1 w w W W -> ++-- 3 4
+1 W W W r w -> +--+- 4 65538
+1 W w w -> +++ 1 65540
+2 w c c -> ++- 3 9
+2 W s c W -> ++-- 4 65538
 ";
 
 // A claim that so many looks find.
@@ -61,6 +67,10 @@ fn answer(disk: &mut Claimed<Memory, Until>, word: &str) -> &'static str {
         "w" => {
             let end = disk.disk.bytes().len();
             disk.write_at(end, b"x").is_ok()
+        }
+        "W" => {
+            let end = disk.disk.bytes().len();
+            disk.write_at(end, &[0; 65_536]).is_ok()
         }
         "c" => disk.set_len(9).is_ok(),
         _ => disk.sync().is_ok(),

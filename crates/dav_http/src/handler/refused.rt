@@ -1,5 +1,5 @@
 //! Requests that aren't run (RFC 9110, section 13.2; RFC 4918, section 10.4).
-ghost use Rattle.std.specs.Prelude.{◌≡◌, ◌≢◌, IfOk, None, codes};
+ghost use Rattle.std.specs.Prelude.{◌≡◌, ◌≢◌, ◌⊎◌, IfOk, None, codes};
 ghost use Rattle.std.specs.Bool.{Decides};
 ghost use Rattle.dav_core.specs.declared.errors.DavError.TheVariants as DavError;
 ghost use Rattle.http_header.specs.HeaderMap.{get_all};
@@ -9,6 +9,7 @@ ghost use Rattle.dav_http.specs.Refused.{AsksForTooMany, HasUnread, IsUnread, Ma
 
 use super::Handler;
 use crate::head::{Head, is_safe};
+use crate::placed::is_unplaced;
 use dav_core::davpath::DavPath;
 use dav_core::errors::{DavError, NoMemory};
 use dav_engine::headers::{absent_if_invalid, values_of};
@@ -74,8 +75,10 @@ fn is_unread_none_match(alloc: Global, headers: &HeaderMap) -> Result<bool, NoMe
 }
 
 // Whether a condition is there and means nothing.
-fn has_unread(alloc: Global, headers: &HeaderMap) -> Result<bool, NoMemory>
-    ensures { IfOk result (λ has. Decides has (HasUnread headers.now)) }
+fn has_unread_condition(alloc: Global, headers: &HeaderMap) -> Result<bool, NoMemory>
+    ensures { IfOk result (λ has. Decides has (IsUnread IsIfHeader (get_all headers.now (codes "if"))
+        ⊎ (IsUnread IsTagList (get_all headers.now (codes "if-match"))
+        ⊎ IsUnread IsTagList (get_all headers.now (codes "if-none-match"))))) }
 {
     if is_unread_if(alloc, headers)? {
         return Ok(true);
@@ -84,6 +87,16 @@ fn has_unread(alloc: Global, headers: &HeaderMap) -> Result<bool, NoMemory>
         return Ok(true);
     }
     is_unread_none_match(alloc, headers)
+}
+
+// Whether a condition, or a range, is there and means nothing.
+fn has_unread(alloc: Global, headers: &HeaderMap) -> Result<bool, NoMemory>
+    ensures { IfOk result (λ has. Decides has (HasUnread headers.now)) }
+{
+    if has_unread_condition(alloc, headers)? {
+        return Ok(true);
+    }
+    is_unplaced(alloc, headers)
 }
 
 // The moment in an If-Unmodified-Since that counts.
@@ -195,7 +208,7 @@ impl Handler {
 
     /// With which status a request with this head and body is answered, where it isn't to be run; `None` where it is. 400 where a
     /// PROPFIND asks for more than 1,000 properties by their names, and where an If, an If-Match or an If-None-Match of a request
-    /// that may change something means nothing; 412 where what is at its target was changed after the moment in its
+    /// that may change something means nothing, or its Content-Range names no bytes (RFC 9110, section 14.5); 412 where what is at its target was changed after the moment in its
     /// If-Unmodified-Since, which counts without If-Match (RFC 9110, section 13.1.4). Nothing changes.
     pub fn refusal(
         &self,

@@ -1,5 +1,6 @@
 //! The blocks of a file of the elder format are read.
 ghost use Rattle.std.specs.Prelude.{◌≡◌, ◌≤◌, ◌<◌, ◌+◌, ◌^◌, ◌++◌, ◌∷◌, [], ℕ, List, Some, length, IsTrue, IsFalse, IfOk, IfErr, IfSome, OnOk, MatchOption};
+ghost use Rattle.std.specs.Int.{w64, to_be_bytes};
 ghost use Rattle.sqlite_disk.specs.Disk.{Holds};
 ghost use Rattle.dav_journal.specs.Elder.{HasElderFront, HasReadElder, IsElder, IsLetGo, IsNoElder, IsReadingElder, elder_head};
 ghost use Rattle.dav_journal.specs.Error.{IsNoDamage};
@@ -10,6 +11,7 @@ use crate::elder::{
     number_in,
 };
 use crate::error::JournalError;
+use crate::journal::looking::are_same;
 use crate::journal::{Journal, PIECE};
 use sqlite_disk::Disk;
 use std::alloc::Global;
@@ -72,7 +74,23 @@ impl<D: Disk + Drop> Journal<D> {
         if head == was {
             return Ok(false);
         }
-        Ok(is_faint(&head, &was))
+        if !is_faint(&head, &was) {
+            return Ok(false);
+        }
+        self.tells_length(former)
+    }
+
+    // Whether the head of the first block has the length of this content.
+    fn tells_length(&mut self, former: &[u8]) -> Result<bool, JournalError>
+        ensures stays { Stays D.Disk self.old self.new }
+        ensures is { IfOk result (λ is. IsTrue is → IsClean D.Disk self.new
+            → Holds (file_of D.Disk self.old) 16 (to_be_bytes w64 (length former.now))) }
+        ensures other { IfOk result (λ is. IsFalse is → IsClean D.Disk self.new
+            → Holds (file_of D.Disk self.old) 16 (to_be_bytes w64 (length former.now)) → ⊥) }
+    {
+        let mut told = [0u8; 8];
+        self.read(ELDER_FRONT, &mut told)?;
+        Ok(are_same(&told, &(former.len() as u64).to_be_bytes()))
     }
 
     // Makes sure that a file without a first block hasn't the version of the elder format, whole.

@@ -1,9 +1,11 @@
 //! Whether another opening went on with the file.
-ghost use Rattle.std.specs.Prelude.{◌≡◌, ℕ, List, slice_index, OnOk};
+ghost use Rattle.std.specs.Prelude.{◌≡◌, ℕ, List, slice_index, IfErr, IsTrue, OnOk, IsErrOf, ◌↔◌};
 ghost use Rattle.sqlite_disk.specs.Disk.{Holds};
 ghost use Rattle.dav_journal.specs.Block.{IsNoBlock};
+ghost use Rattle.dav_journal.specs.Error.{IsNoDamage};
 ghost use Rattle.dav_journal.specs.Journal.{IsClean, IsOwn, OnlyLooks, Stays, blocks_end, file_of};
 ghost use Rattle.dav_journal.specs.Mark.{NoneMarkedPast};
+ghost use Rattle.dav_journal.specs.declared.error.JournalError.TheVariants.{Passed};
 
 use crate::block::{HEAD, OPEN, START};
 use crate::error::JournalError;
@@ -38,10 +40,14 @@ impl<D: Disk + Drop> Journal<D> {
 
     /// Sees that the first block is there, and begins with these bytes: `Passed` where it isn't so.
     pub fn see_begin(&mut self, begins: [u8; 8]) -> Result<(), JournalError>
+        ensures sound { IfErr result IsNoDamage }
         ensures looks { OnlyLooks D.Disk self.old self.new }
         ensures first { OnOk result (IsClean D.Disk self.new
             → (slice_index (file_of D.Disk self.old) 72 ≡ 1)
             × Holds (file_of D.Disk self.old) 121 begins) }
+        ensures passed { IsErrOf result Passed → IsClean D.Disk self.new
+            → slice_index (file_of D.Disk self.old) 72 ≡ 1
+            → Holds (file_of D.Disk self.old) 121 begins → ⊥ }
     {
         if !self.disk.may_be_used() {
             return Err(JournalError::Io);
@@ -53,7 +59,7 @@ impl<D: Disk + Drop> Journal<D> {
         }
         let mut found = [0u8; 8];
         self.disk.read_at(START + HEAD, &mut found)?;
-        if found != begins {
+        if !are_same(&found, &begins) {
             return Err(JournalError::Passed);
         }
         Ok(())
@@ -76,4 +82,11 @@ impl<D: Disk + Drop> Journal<D> {
         let wanted = self.end.saturating_add(HEAD + 1).saturating_add(count);
         wanted <= self.len
     }
+}
+
+// Whether these are the same bytes.
+pub fn are_same(one: &[u8; 8], other: &[u8; 8]) -> bool
+    ensures { IsTrue result ↔ (one.now ≡ other.now) }
+{
+    *one == *other
 }

@@ -13,15 +13,16 @@ use std::alloc::Global;
 
 impl<H: Handles + Drop, J: Follows + Drop> Kept<H, J> {
     /// Plays the blocks that another opening kept behind those that were played, each once, until none
-    /// is whole. False where that one began anew, or no block was ever read: this one has to be opened
-    /// anew then. After an error nothing may be asked.
+    /// is whole yet. `Damaged` where one that was kept can't be read. False where that one began anew,
+    /// or no block was ever read: this one has to be opened anew then. After an error nothing may be
+    /// asked.
     pub fn follow(&mut self) -> Result<bool, KeptError>
         ensures played { IfOk result (λ goes. (blocks : List (List ℕ))
             × PlaysRecords (answer_step H.answers) (concat blocks) (held_by self.old)
             (held_by self.new)
             × (goes ≡ true → J.is_clean (journal_of self.new) → (before : List (List ℕ))
             → J.has_so_far (journal_of self.old) before
-            → J.has_so_far (journal_of self.new) (before ++ blocks))) }
+            → J.has_all (journal_of self.new) (before ++ blocks))) }
         ensures same { IfOk result (λ goes. goes ≡ true → J.is_clean (journal_of self.new)
             → J.is_unturned (journal_of self.new)) }
         ensures stays { StaysAsKept self.old self.new }
@@ -48,7 +49,7 @@ impl<H: Handles + Drop, J: Follows + Drop> Kept<H, J> {
         ensures clean { J.is_clean (journal_of self.new) → J.is_clean (journal_of self.old) }
         ensures read { IfOk result (λ block. J.is_clean (journal_of self.new)
             → (blocks : List (List ℕ)) → J.has_so_far (journal_of self.old) blocks
-            → MatchOption block (J.has_so_far (journal_of self.new) blocks)
+            → MatchOption block (J.has_all (journal_of self.new) blocks)
             (λ b. J.has_so_far (journal_of self.new) (blocks ++ b.items ∷ []))) }
     {
         self.journal.follow(self.alloc)
@@ -61,6 +62,8 @@ impl<H: Handles + Drop, J: Follows + Drop> Kept<H, J> {
         ensures clean { J.is_clean (journal_of self.new) → J.is_clean (journal_of self.old) }
         ensures read { (blocks : List (List ℕ)) → J.has_so_far (journal_of self.old) blocks
             → J.has_so_far (journal_of self.new) blocks }
+        ensures all { (blocks : List (List ℕ)) → J.has_all (journal_of self.old) blocks
+            → J.has_all (journal_of self.new) blocks }
         ensures same { IfOk result (λ is. is ≡ false → J.is_clean (journal_of self.new)
             → J.is_unturned (journal_of self.new)) }
     {

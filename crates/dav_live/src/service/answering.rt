@@ -283,7 +283,8 @@ impl<H: Ends + Drop, J: Keeps + Drop> Service<H, J> {
         }
     }
 
-    // Runs a request that may change something; 507 where there is no room for its record (RFC 4918, section 11.5).
+    // Runs a request that may change something; 507 where there is no room for what it may store, or for its record (RFC 4918, section
+    // 11.5).
     pub(super) fn change(
         &mut self,
         request: &Request<'_>,
@@ -298,6 +299,10 @@ impl<H: Ends + Drop, J: Keeps + Drop> Service<H, J> {
         ensures goes_on { OnOk result
             (GoesOn H.answers J.is_clean J.kept (kept_of self.old) (kept_of self.new)) }
     {
+        if !self.kept.handler().takes_room(request)? {
+            response.status = StatusCode::INSUFFICIENT_STORAGE;
+            return Ok(());
+        }
         match self.kept.answer(request, response) {
             Ok(Some(_)) => {
                 see_record(request, response.status);

@@ -82,7 +82,7 @@ impl<H: Ends + Drop, J: Follows + Drop> Replays for Service<H, J> {
     ghost use Rattle.dav_live.specs.Behind.{HearsKept};
 
     ghost replayed = { λ old goes new. HearsKept H.answers J.is_clean J.is_unturned J.has_so_far
-        old goes new };
+        J.has_all old goes new };
 
     ghost is_at_rest = { λ s. (held_of s).batch ≡ [] };
 

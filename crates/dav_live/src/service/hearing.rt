@@ -73,7 +73,7 @@ impl<H: Ends + Drop, J: Keeps + Drop> Service<H, J> {
         let now = date_text(self.alloc, date)?;
         let last = date_text(self.alloc, moment)?;
         let notice = format!(in self.alloc;
-            "clock: the date is {now}, and the state was changed at {last}: its clock goes on from there"
+            "clock: the date is {now}, and the state was changed at {last}: its clock goes on from there; vuldarg cut TO --at MOMENT copies the state of before"
         )?;
         Ok(self.told.notice(notice.as_str())?)
     }

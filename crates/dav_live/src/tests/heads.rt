@@ -132,9 +132,9 @@ PATCH Content-Length: 5 -> - - -
 PROPFIND Content-Length: 5 -> - - -
 PROPPATCH Content-Length: 5 -> - - -
 LOCK Content-Length: 5 -> - - -
-PUT Content-Length: 65536 -> - - -
-PUT Content-Length: 65537 -> - - long
-PUT CONTENT-LENGTH:65537 -> - - long
+PUT Content-Length: 4096 -> - - -
+PUT Content-Length: 4097 -> - - long
+PUT CONTENT-LENGTH:4097 -> - - long
 PUT Content-Length: 18446744073709551615 -> - - long
 PUT Content-Length: 18446744073709551616 -> - - long
 PUT Transfer-Encoding: chunked -> - - long

@@ -93,7 +93,7 @@ fn entries_of(
 }
 
 // Whether properties are in order of their keys, each key once.
-fn are_rising(entries: &[(Key, Option<Element>)]) -> bool
+pub fn are_rising(entries: &[(Key, Option<Element>)]) -> bool
     ensures { Decides result (T (is_sorted key_cmp entries.now)) }
 {
     for i in 1..entries.len() {
@@ -136,13 +136,20 @@ impl Properties {
     {
         let (count, rest) = number_of(bytes)?;
         let (entries, rest) = entries_of(alloc, levels, count, rest)?;
-        Ok((Properties { entries }, rest))
+        let are_rising = are_rising(&entries);
+        Ok((
+            Properties {
+                entries,
+                are_rising,
+            },
+            rest,
+        ))
     }
 
     /// Whether the properties are in order of their keys, each key once.
     pub fn are_rising(&self) -> bool
         ensures { Decides result (T (is_sorted key_cmp self.now)) }
     {
-        are_rising(&self.entries)
+        self.are_rising
     }
 }

@@ -138,6 +138,8 @@ impl Keeps for Coming {
 impl Follows for Coming {
     ghost is_unturned = { λ j. ⊤ };
 
+    ghost has_all = { λ j blocks. ⊤ };
+
     fn follow(&mut self, alloc: Global) -> Result<Option<Vec<u8>>, KeptError> {
         match self.word() {
             "." => Ok(None),
@@ -154,7 +156,9 @@ impl Follows for Coming {
         Ok(self.is_anew)
     }
 
-    ghost read_is_so_far = { λ j blocks read. read };
+    ghost read_is_all = { λ j blocks read. read };
+
+    ghost all_is_so_far = { λ j blocks all. all };
 }
 
 // A journal whose first block is there, or was read before; this comes then.

@@ -12,7 +12,8 @@ use std::test::Fail;
 /// `whole` has the first block and `two`; `torn` and `zeros` have something after it that is no block. `first` and `second` are
 /// damaged in that block, `bad` has a block after one that is bad, and `foreign` another first block. `dropped` is what is left
 /// of a file that was let go, `halfway` what a crash left before, and `faded` has lost its version alone. `copy` is a copy that
-/// is whole or didn't end, `begun` has its first block alone, and `longer` isn't a copy.
+/// is whole or didn't end, `begun` has its first block alone, and `longer` isn't a copy. `nothing` is what a power cut left of a first
+/// write, zeros alone.
 const ELDER: &str = "
 whole empty -> taken over, 2
 whole front -> taken over, 2
@@ -31,6 +32,9 @@ halfway copy -> taken over, 2
 dropped copy -> taken over, 2
 halfway empty -> Foreign
 dropped empty -> Foreign
+nothing empty -> 0
+nothing front -> 0
+nothing copy -> 2
 old empty -> 2
 empty empty -> 0
 empty new -> 3
@@ -101,6 +105,7 @@ fn change(name: &str, bytes: &mut Vec<u8>) -> Result<(), AllocError> {
 fn first_file(alloc: Global, name: &str) -> Result<Vec<u8>, Fail> {
     match name {
         "old" | "empty" => Ok(file(alloc, name)?),
+        "nothing" => Ok(Vec::from_slice(alloc, &[0; 73])?),
         "foreign" => Ok(of_blocks(alloc, &[b"?", b"two"])?),
         _ => {
             let mut bytes = of_blocks(alloc, &[b"/", b"two"])?;
@@ -187,5 +192,29 @@ fn a_crash_while_an_elder_file_is_taken_over(rt: HostRuntime) -> Result<(), Fail
         }
     }
     assert!(rt; ends > 20);
+    Ok(())
+}
+
+/// What a power cut left of the first write of the very first file is a new state: zeros of any length, or that write with a part of its
+/// first bytes lost.
+#[test]
+fn what_is_left_of_a_first_write_is_new(rt: HostRuntime) -> Result<(), Fail> {
+    let alloc = rt.alloc();
+    let front = other_file(alloc, "front")?;
+    for to in 0..74 {
+        let mut zeros = Vec::new(alloc);
+        zeros.resize(to, 0u8)?;
+        for other in ["empty", "front"] {
+            let other = other_file(alloc, other)?;
+            let mut pair = Pair::new(disk(alloc, &zeros)?, disk(alloc, &other)?);
+            assert_eq!(rt; adopt(alloc, &mut pair), Ok((false, 0)), "{to} zeros");
+        }
+        for from in [0, 8, 16] {
+            let mut lost = front.clone()?;
+            zero(&mut lost, from, to.min(24));
+            let mut pair = Pair::new(disk(alloc, &lost)?, Memory::new(alloc));
+            assert_eq!(rt; adopt(alloc, &mut pair), Ok((false, 0)), "{from} to {to}");
+        }
+    }
     Ok(())
 }

@@ -85,41 +85,108 @@ fn what_is_kept_is_followed(rt: HostRuntime) -> Result<(), Fail> {
     Ok(())
 }
 
-// The file that counts after one step and after two, of one pair.
-fn one_and_two(alloc: Global) -> Result<(Vec<u8>, Vec<u8>), JournalError> {
+// The file that counts after one step and after two, of one pair, and the other file.
+fn one_and_two(alloc: Global) -> Result<(Vec<u8>, Vec<u8>, Vec<u8>), JournalError> {
     let mut pair = new_pair(alloc);
     read(alloc, &mut pair)?;
     live(alloc, &mut pair, 0, 1);
     let one = file_of(alloc, &mut pair.counts)?;
     step(alloc, &mut pair, 1)?;
-    Ok((one, file_of(alloc, &mut pair.counts)?))
+    let two = file_of(alloc, &mut pair.counts)?;
+    Ok((one, two, file_of(alloc, &mut pair.spare)?))
 }
 
-/// A block of which a byte isn't there yet is none yet, whatever a mark says; it is one once it is whole.
+// A file of which a byte was lost; none where it was 0.
+fn without(mut file: Vec<u8>, place: usize) -> Option<Vec<u8>> {
+    let byte = file.as_mut_slice().get_mut(place)?;
+    if *byte == 0 {
+        return None;
+    }
+    *byte = 0;
+    Some(file)
+}
+
+// Gives a file the marks of another one.
+fn copy_marks(from: &[u8], to: &mut Vec<u8>) {
+    if let (Some(from), Some(to)) = (from.get(24..72), to.as_mut_slice().get_mut(24..72)) {
+        to.copy_from_slice(from);
+    }
+}
+
+// A pair that read the first step of these files, of which the first one counts.
+fn at_one(alloc: Global, one: &[u8], spare: &[u8]) -> Result<Pair<Memory>, Fail> {
+    let mut pair = Pair::new(disk(alloc, one)?, disk(alloc, spare)?);
+    if read(alloc, &mut pair)?.as_slice() != b"one,".as_slice() {
+        return Err(Fail::new("the first step isn't read"));
+    }
+    Ok(pair)
+}
+
+/// A block of which a byte isn't there yet is none yet, as long as no mark tells of it; it is one once it is whole.
 #[test]
 fn half_a_block_is_none_yet(rt: HostRuntime) -> Result<(), Fail> {
     let alloc = rt.alloc();
-    let (one, two) = one_and_two(alloc)?;
-    let mut spare = new_pair(alloc);
-    read(alloc, &mut spare)?;
-    let spare = file_of(alloc, &mut spare.spare)?;
+    let (one, two, spare) = one_and_two(alloc)?;
     for place in one.len().saturating_sub(1)..two.len().saturating_sub(1) {
-        let mut torn = two.clone()?;
-        let Some(byte) = torn.as_mut_slice().get_mut(place) else {
+        let Some(mut torn) = without(two.clone()?, place) else {
             continue;
         };
-        if *byte == 0 {
-            continue;
-        }
-        *byte = 0;
-        let mut pair = Pair::new(disk(alloc, &one)?, disk(alloc, &spare)?);
-        assert_eq!(rt; read(alloc, &mut pair)?.as_slice(), b"one,".as_slice());
+        copy_marks(&one, &mut torn);
+        let mut pair = at_one(alloc, &one, &spare)?;
         for (file, expected) in [(&torn, b"".as_slice()), (&two, b"two,"), (&two, b"")] {
             pair.counts
                 .swap_disks(&mut Journal::new(disk(alloc, file)?));
             let found = follow(alloc, &mut pair)?;
             assert_eq!(rt; found.as_deref(), Some(expected), "byte {place}");
         }
+    }
+    Ok(())
+}
+
+/// A block that a mark tells of, and of which a byte is lost, is damage, as it is at a start; but where the first block was dropped too, the
+/// other opening began anew.
+#[test]
+fn half_a_marked_block_is_damage(rt: HostRuntime) -> Result<(), Fail> {
+    let alloc = rt.alloc();
+    let (one, two, spare) = one_and_two(alloc)?;
+    let end = one.len().saturating_sub(1);
+    for place in end..two.len().saturating_sub(1) {
+        let Some(torn) = without(two.clone()?, place) else {
+            continue;
+        };
+        let mut pair = at_one(alloc, &one, &spare)?;
+        pair.counts
+            .swap_disks(&mut Journal::new(disk(alloc, &torn)?));
+        let found = follow(alloc, &mut pair);
+        assert_eq!(rt; found, Err(JournalError::Damaged(end)), "byte {place}");
+        let Some(dropped) = without(torn, 72) else {
+            return Err(Fail::new("no first block"));
+        };
+        let mut pair = at_one(alloc, &one, &spare)?;
+        pair.counts
+            .swap_disks(&mut Journal::new(disk(alloc, &dropped)?));
+        assert_eq!(rt; follow(alloc, &mut pair)?, None, "byte {place}");
+    }
+    Ok(())
+}
+
+/// A file that ends where the blocks end that were read is damage, where a mark tells of more.
+#[test]
+fn a_file_that_is_cut_short_is_damage(rt: HostRuntime) -> Result<(), Fail> {
+    let alloc = rt.alloc();
+    let (one, two, spare) = one_and_two(alloc)?;
+    let end = one.len().saturating_sub(1);
+    for len in 72..two.len().saturating_sub(1) {
+        let mut cut = two.clone()?;
+        cut.truncate(len);
+        let mut pair = at_one(alloc, &one, &spare)?;
+        pair.counts
+            .swap_disks(&mut Journal::new(disk(alloc, &cut)?));
+        let found = follow(alloc, &mut pair);
+        assert!(rt;
+            found == Err(JournalError::Damaged(end)) || found == Err(JournalError::Io),
+            "{len} bytes: {found:?}"
+        );
     }
     Ok(())
 }

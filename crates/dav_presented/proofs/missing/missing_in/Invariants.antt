@@ -1,8 +1,7 @@
-use Rattle.std.proofs.Common.{◌≡◌, []}
-use Rattle.dav_core.specs.ChildElements.{elements_left}
-use Rattle.dav_core.specs.Element.{child_elements}
-use Rattle.dav_presented.specs.Missing.{missing_after}
+use Rattle.std.proofs.Common.{◌≡◌, ◌++◌, drop}
+use Rattle.dav_presented.specs.Missing.{untold}
 use Rattle.dav_presented.proofs.missing.missing_in.Given as goal
 
+-- what is missing so far and of what is left is all
 abbrev pub invariant-loop-property : goal.invariant-loop-property
-invariant-loop-property l = missing_after l.response l.found.items (elements_left l.property-iterator) ≡ missing_after l.response [] (child_elements l.prop)
+invariant-loop-property l = l.missing.items ++ untold l.response (drop l.property-index l.asked) ≡ untold l.response l.asked

@@ -2,8 +2,8 @@ use Rattle.std.proofs.Common.{◌≡◌, ℕ, List, arith, refl, slice_index, su
 use Rattle.std.proofs.lemmas.Result.{on_ok_weaker}
 use Rattle.std.specs.Int.{w64, to_be_bytes}
 use Rattle.sqlite_disk.specs.Disk.{Holds}
-use Rattle.dav_journal.proofs.JournalLemmas.{stays_then}
-use Rattle.dav_journal.proofs.LookLemmas.{looks_stay, read_pair_stays, stays_same}
+use Rattle.dav_journal.proofs.JournalLemmas.{stays_same, stays_then}
+use Rattle.dav_journal.proofs.LookLemmas.{looks_stay, read_pair_stays}
 use Rattle.dav_journal.proofs.pair.Pair.look_again.Goals as goal
 
 pub returns-in_err-see_same_end-clause-read : goal.returns-in_err-see_same_end-clause-read

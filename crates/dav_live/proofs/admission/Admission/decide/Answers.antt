@@ -1,7 +1,7 @@
 use Rattle.std.proofs.Common.{◌≡◌, ◌∙◌, map, sym, ap, refl, subst, string_bytes, codes}
 use Rattle.dav_access.specs.Principals.{IsRefusal, ShowsNoUser}
 use Rattle.dav_live.specs.Admission.{AdmissionView, users_for}
-use Rattle.dav_live.specs.Hosts.{TellsFor, value_of}
+use Rattle.dav_live.specs.Hosts.{TellsFor, asked_host, value_of}
 use Rattle.dav_live.proofs.AdmissionLemmas.{for_another, of_nobody}
 use Rattle.dav_live.proofs.admission.Admission.decide.Goals as goal
 
@@ -10,7 +10,7 @@ returns-then-not-is_for-clause-decision c =
     let hosts : c.args.self.now.hosts ≡ map string_bytes c.deref.result.now =
     sym (ap (λ (a : AdmissionView). a.hosts) c.self.view_is) ∙ ap (map string_bytes) (sym c.deref.ensures.value) in
     for_another c.args.self.now c.args.tokens c.args.head.now c.args.body.now c.refused.result _ _ hosts c.refused.ensures refl c.new.ensures.bytes
-    (subst (TellsFor (map string_bytes c.deref.result.now) (value_of (codes "host") c.args.head.now)) c.if-not-is_for.true c.is_for.ensures)
+    (subst (TellsFor (map string_bytes c.deref.result.now) (asked_host c.args.head.now)) c.if-not-is_for.true c.is_for.ensures)
 
 pub returns-in-Err-Unknown-clause-decision : goal.returns-in-Err-Unknown-clause-decision
 returns-in-Err-Unknown-clause-decision c =
@@ -19,4 +19,4 @@ returns-in-Err-Unknown-clause-decision c =
     let shows : ShowsNoUser (users_for c.args.self.now c.args.head.now) (value_of (codes "authorization") c.args.head.now) (string_bytes c.in-Err-Unknown.shown) =
     subst (IsRefusal (users_for c.args.self.now c.args.head.now) (value_of (codes "authorization") c.args.head.now)) c.in-Err-Unknown.field-0-is c.in-Err-Unknown.ensures.refusal in
     of_nobody c.args.self.now c.args.tokens c.args.head.now c.args.body.now c.refused-in-Err-Unknown.result _ _ _ hosts c.refused-in-Err-Unknown.ensures refl refl
-    (subst (TellsFor (map string_bytes c.deref.result.now) (value_of (codes "host") c.args.head.now)) c.if-not-is_for.false c.is_for.ensures) shows
+    (subst (TellsFor (map string_bytes c.deref.result.now) (asked_host c.args.head.now)) c.if-not-is_for.false c.is_for.ensures) shows

@@ -1,5 +1,5 @@
 use Rattle.std.proofs.Common.{subst, sym, ap, string_bytes, ◌≡◌, ◌∙◌}
-use Rattle.dav_journal.specs.Pair.{IsReadingPair}
+use Rattle.dav_journal.specs.Pair.{HasAllPair}
 use Rattle.dav_journal.specs.declared.pair.Pair.{Pair}
 use Rattle.dav_http.specs.Saved.{Loads}
 use Rattle.dav_http.specs.Steps.{new_server}
@@ -22,12 +22,12 @@ returns-clause-run g c =
     c.new-machine.ensures ∙ c.in_ok-handler.ensures.new ∙ ap new_server (c.as_str.ensures.value ∙ c.in_ok-prefix.ensures.cases) in
     let run = c.in_ok-service.ensures.run in
     let opened : IsCleanBehind g.D.Disk (journal_of (kept_of service))
-    → IsOpened IsAnswer Loads (λ j bs. IsReadingPair g.D.Disk (followed_by j) bs) (new_server prefix) run.0 run.1 (kept_of service) =
+    → IsOpened IsAnswer Loads (λ j bs. HasAllPair g.D.Disk (followed_by j) bs) (new_server prefix) run.0 run.1 (kept_of service) =
     λ clean.
-    subst (λ (s : Server). IsOpened IsAnswer Loads (λ j bs. IsReadingPair g.D.Disk (followed_by j) bs) s run.0 run.1 (kept_of service)) first
+    subst (λ (s : Server). IsOpened IsAnswer Loads (λ j bs. HasAllPair g.D.Disk (followed_by j) bs) s run.0 run.1 (kept_of service)) first
     (run.2 clean (c.in_ok-journal.ensures (c.in_ok-service.ensures.clean clean))) in (
       run.0,
       run.1,
       subst (λ (s : Service Server (Followed (Pair g.row.D.Denot))). IsCleanBehind g.D.Disk (journal_of (kept_of s))
-          → IsOpened IsAnswer Loads (λ j bs. IsReadingPair g.D.Disk (followed_by j) bs) (new_server prefix) run.0 run.1 (kept_of s)) (sym c.new-3.ensures.keeper) opened,
+          → IsOpened IsAnswer Loads (λ j bs. HasAllPair g.D.Disk (followed_by j) bs) (new_server prefix) run.0 run.1 (kept_of s)) (sym c.new-3.ensures.keeper) opened,
     )

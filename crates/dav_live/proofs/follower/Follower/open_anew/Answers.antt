@@ -1,5 +1,5 @@
 use Rattle.std.proofs.Common.{subst, ap, ◌≡◌, ◌∙◌}
-use Rattle.dav_journal.specs.Pair.{IsReadingPair}
+use Rattle.dav_journal.specs.Pair.{HasAllPair}
 use Rattle.dav_http.specs.Saved.{Loads}
 use Rattle.dav_http.specs.Steps.{new_server}
 use Rattle.dav_kept.specs.Followed.{followed_by}
@@ -19,6 +19,6 @@ returns-clause-run g c =
       run.0,
       run.1,
       λ clean.
-          subst (λ (s : Server). IsOpened IsAnswer Loads (λ j bs. IsReadingPair g.D.Disk (followed_by j) bs) s run.0 run.1 (kept_of c.open_anew.new.self)) first
+          subst (λ (s : Server). IsOpened IsAnswer Loads (λ j bs. HasAllPair g.D.Disk (followed_by j) bs) s run.0 run.1 (kept_of c.open_anew.new.self)) first
           (run.2 clean (c.in_ok-journal.ensures (c.in_ok-open_anew.ensures.clean clean))),
     )

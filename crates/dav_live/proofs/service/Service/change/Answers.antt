@@ -1,9 +1,12 @@
-use Rattle.std.proofs.Common.{◌≡◌, rules}
+use Rattle.std.proofs.Common.{◌≡◌, refl, rules}
 use Rattle.dav_kept.specs.Kept.{held_by}
 use Rattle.dav_kept.proofs.KeptLemmas.{of_some}
 use Rattle.dav_live.specs.Serving.{answered, held_of, kept_of}
-use Rattle.dav_live.proofs.RunLemmas.{answered_goes_on, goes_on_held}
+use Rattle.dav_live.proofs.RunLemmas.{answered_goes_on, goes_on_held, goes_on_same}
 use Rattle.dav_live.proofs.service.Service.change.Goals as goal
+
+pub returns-then-not-branch-clause-goes_on : goal.returns-then-not-branch-clause-goes_on
+returns-then-not-branch-clause-goes_on g c = goes_on_same g.H.Handles.answers g.J.Keeps.is_clean g.J.Keeps.kept (kept_of c.args.self.now) c.args.self.now.kept refl
 
 pub returns-in-Ok-Some-clause-run : goal.returns-in-Ok-Some-clause-run
 returns-in-Ok-Some-clause-run g c =

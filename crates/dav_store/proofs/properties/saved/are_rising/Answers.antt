@@ -1,7 +1,8 @@
 use Rattle.std.proofs.Common.{◌≡◌, ◌-◌, get_or, sym, ap, ◌∙◌}
 use Rattle.std.specs.Ordering.{is_lt}
 use Rattle.dav_core.specs.Property.{key_cmp}
-use Rattle.dav_store.proofs.LoadedOrder.{rises_more, rises_not, rises_all, test_less, test_other, key_total}
+use Rattle.dav_store.proofs.LoadedOrder.{rises_more, rises_not, rises_all, test_less, test_other}
+use Rattle.dav_store.specs.KeyOrder.{key_total}
 use Rattle.dav_store.proofs.properties.saved.are_rising.Goals as goal
 
 pub returns-then-not-is_lt : goal.returns-then-not-is_lt

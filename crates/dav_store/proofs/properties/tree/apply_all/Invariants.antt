@@ -1,8 +1,8 @@
 use Rattle.std.proofs.Common.{◌≡◌, map}
 use Rattle.dav_core.specs.Property.{patched, patch_of}
 use Rattle.dav_store.specs.Answered.{answer_to}
-use Rattle.dav_store.proofs.properties.Properties.patch.Given as goal
+use Rattle.dav_store.proofs.properties.tree.apply_all.Given as goal
 
 -- the changes so far were made and answered
 abbrev pub invariant-loop-set : goal.invariant-loop-set
-invariant-loop-set l = (l.answers.items ≡ map answer_to l.yielded) × (l.self-inside.entries.items ≡ patched (map patch_of l.yielded) l.fn.self)
+invariant-loop-set l = (l.answers.items ≡ map answer_to l.yielded) × (l.tree.entries ≡ patched (map patch_of l.yielded) l.fn.tree.entries)
