@@ -1,5 +1,6 @@
 mod Each
 pub mod PlacedLemmas
+mod SettingLemmas
 mod Printed
 mod StoredTrees
 mod PlainWords

@@ -1,5 +1,6 @@
 -- Which requests aren't run, by what is read of them.
-use Rattle.std.proofs.Common.{◌≡◌, ◌≢◌, ◌⊎◌, Bool, true, false, nat_lt, not, ◌==◌, length, is_some, ok_or, IfOk, true≢false, arith, List, [], inl, inr, ℕ, ◌<◌, ◌≤◌, Option, Some, None, Result, Ok, Err, option_map, refl, subst, sym, ap, ◌∙◌}
+use Rattle.std.proofs.Common.{◌≡◌, ◌≢◌, ◌⊎◌, Bool, true, false, nat_lt, not, ◌==◌, length, is_some, ok_or, IfOk, true≢false, arith, List, [], inl, inr, ℕ, ◌<◌, ◌≤◌, Option, Some, None, Result, Ok, Err, option_map, codes, refl, subst, sym, ap, ◌∙◌}
+use Rattle.std.specs.Bool.{Decides}
 use Rattle.std.proofs.lemmas.Bool.{cases_lt}
 use Rattle.std.proofs.lemmas.Bool.Decides.{nat_tests}
 use Rattle.dav_core.specs.Path.{PathText, names}
@@ -7,6 +8,8 @@ use Rattle.dav_core.specs.World.{Node, node_at}
 use Rattle.dav_core.specs.declared.errors.DavError.{DavError}
 use Rattle.dav_core.specs.declared.errors.DavError.TheVariants as dav
 use Rattle.dav_core.specs.declared.method.DavMethod.{DavMethod}
+use Rattle.dav_core.specs.declared.method.DavMethod.TheVariants.{PropPatch}
+use Rattle.dav_store.specs.Used.{properties_of}
 use Rattle.httparse.proofs.GrammarLemmas.{request_unique}
 use Rattle.dav_server.specs.Head.{IsHead, Request, request_of_head}
 use Rattle.dav_http.specs.Kept.{Says}
@@ -20,7 +23,9 @@ use Rattle.dav_headers.specs.If.{ConditionList, IsIfHeader}
 use Rattle.dav_headers.specs.declared.errors.HeaderError.{HeaderError}
 use Rattle.dav_headers.specs.declared.errors.HeaderError.TheVariants as header-error
 use Rattle.dav_server.specs.Headers.{headers_of}
-use Rattle.dav_http.specs.Refused.{AsksForTooMany, HasUnread, IsChangedAt, IsStale, IsUnmet, IsUnread, MayBeRefused, MayChange, NoUpdateIsLost, Refuses, Tells, many, since_in, stale, unmet, unread}
+use Rattle.dav_http.specs.Crowded.{AreTooMany, IsCrowded}
+use Rattle.dav_http.specs.Setting.{set_in}
+use Rattle.dav_http.specs.Refused.{AsksForTooMany, HasUnread, IsChangedAt, IsStale, IsUnmet, IsUnread, MayBeRefused, MayChange, NoLaterSecondIsLost, Refuses, Tells, crowded, many, since_in, stale, unmet, unread}
 
 -- bytes that say one request are the head of no other
 pub said_of : (bytes : List ℕ) (a b : Request) → IsHead bytes a → Says bytes b → a ≡ b
@@ -30,10 +35,11 @@ said_of bytes a b (_, head, reads, _, is) (other, also, same) = is ∙ ap reques
 pub may_be_refused : (s : Server) (q : Request) (body : List ℕ) (status : ℕ) → Refuses s q body status → MayBeRefused q.method
 may_be_refused s q body _ (many asks) = inl asks.0
 may_be_refused s q body status (unmet may is) = inr may
+may_be_refused s q body _ (crowded may met is) = inr may
 
--- an update that is run isn't one that its client would lose
-pub no_update_is_lost : NoUpdateIsLost
-no_update_is_lost s q body since moment runs may is_since changed = by (cases_lt since moment)
+-- an update that is run loses no change of a later second
+pub no_later_second_is_lost : NoLaterSecondIsLost
+no_later_second_is_lost s q body since moment runs may is_since changed = by (cases_lt since moment)
   where
     by : (since < moment) ⊎ (moment ≤ since) → moment ≤ since
     by (inr before) = before
@@ -86,6 +92,36 @@ tells_none_by s q m method prefix target named below asked served e (inr reads) 
     subst (Tells (IsChangedAt s q)) (sym is)
     (tells_none s q m (subst (λ (t : List ℕ). GivesServed t (Ok m)) named served) e
     (subst (λ (t : List ℕ). TargetNames s.settings.prefix m t (Err e)) asked (subst (λ (t : List ℕ). TargetNames t m target (Err e)) below reads)))
+
+-- ---- too many properties
+
+module _ (s : Server) (q : Request) (body : List ℕ) (is_patch : q.method ≡ codes "PROPPATCH") where
+  -- what is crowded at the path that a target names is crowded
+  pub crowded_at : (prefix target : List ℕ) → prefix ≡ s.settings.prefix → target ≡ q.target → (p : PathText) → TargetNames prefix PropPatch target (Ok p) → (is : Bool)
+      → Decides is (AreTooMany (properties_of (node_at s.state.store.world (names p))) (set_in body)) → Decides is (IsCrowded s q body)
+  crowded_at prefix target below asked p reads is decides =
+      let named : TargetNames s.settings.prefix PropPatch q.target (Ok p) =
+      subst (λ (t : List ℕ). TargetNames s.settings.prefix PropPatch t (Ok p)) asked (subst (λ (t : List ℕ). TargetNames t PropPatch target (Ok p)) below reads) in (
+        λ yes. (is_patch, p, named, decides.0 yes),
+        λ crowds.
+            let (method, r, also, there) = crowds in
+            decides.1 (
+            subst (λ (x : PathText). AreTooMany (properties_of (node_at s.state.store.world (names x))) (set_in body))
+            (one_path r p (one_outcome s.settings.prefix PropPatch q.target (Ok r) (Ok p) also named)) there
+            ),
+      )
+
+  -- where no path is read in a target, nothing is
+  pub crowded_nowhere : (prefix target : List ℕ) → prefix ≡ s.settings.prefix → target ≡ q.target → (e : DavError) → (e ≡ dav.Memory) ⊎ TargetNames prefix PropPatch target (Err e)
+      → e ≢ dav.Memory → (is : Bool) → is ≡ false → Decides is (IsCrowded s q body)
+  crowded_nowhere prefix target below asked e (inl memory) other is no = absurd (other memory)
+  crowded_nowhere prefix target below asked e (inr reads) other is no = (
+    λ yes. absurd (true≢false (sym yes ∙ no)),
+    λ crowds.
+        let (method, r, also, there) = crowds in
+        not_both r e (one_outcome s.settings.prefix PropPatch q.target (Ok r) (Err e) also
+        (subst (λ (t : List ℕ). TargetNames s.settings.prefix PropPatch t (Err e)) asked (subst (λ (t : List ℕ). TargetNames t PropPatch target (Err e)) below reads))),
+  )
 
 -- ---- what was changed since
 
@@ -157,10 +193,22 @@ pub all_met : (s : Server) (q : Request) → ¬ HasUnread (headers_of q.fields) 
 all_met s q understood fresh _ (unread has) = understood has
 all_met s q understood fresh _ (stale not is) = fresh is
 
-pub tells_refusal : (s : Server) (q : Request) (body : List ℕ) → ¬ AsksForTooMany q body → MayChange q.method → (status : Option ℕ) → Tells (IsUnmet s q) status → Tells (Refuses s q body) status
-tells_refusal s q body few may (Some n) is = unmet may is
-tells_refusal s q body few may None none = by
-  where
-    by : (n : ℕ) → ¬ Refuses s q body n
-    by _ (many asks) = few asks
-    by n (unmet also is) = none n is
+module _ (s : Server) (q : Request) (body : List ℕ) (few : ¬ AsksForTooMany q body) (may : MayChange q.method) where
+  pub refused_unmet : (status : Option ℕ) (n : ℕ) → status ≡ Some n → Tells (IsUnmet s q) status → Refuses s q body n
+  refused_unmet None n some is = absurd (cc)
+  refused_unmet (Some m) n some is = unmet may (subst (IsUnmet s q) (same m n some) is)
+    where
+      same : (a b : ℕ) → Some a ≡ Some b → a ≡ b
+      same a b e = cc
+
+  module _ (status : Option ℕ) (none : status ≡ None) (tells : Tells (IsUnmet s q) status) where
+    met : (n : ℕ) → ¬ IsUnmet s q n
+    met = subst (Tells (IsUnmet s q)) none tells
+
+    pub refused_crowded : IsCrowded s q body → Refuses s q body 507
+    refused_crowded is = crowded may met is
+
+    pub not_refused : ¬ IsCrowded s q body → (n : ℕ) → ¬ Refuses s q body n
+    not_refused room _ (many asks) = few asks
+    not_refused room n (unmet also is) = met n is
+    not_refused room _ (crowded also others is) = room is

@@ -11,6 +11,8 @@ pub mod Kept
 pub mod Placed
 pub mod Presented
 pub mod PresentedParts
+pub mod Setting
+pub mod Crowded
 pub mod Refused
 pub mod Saved
 pub mod Room

@@ -1,5 +1,5 @@
 -- Requests that aren't run: what they say of their conditions, or of their place in a file, isn't understood, what is there was changed since,
--- or they ask for too much (RFC 9110, sections 13.1, 13.2.1 and 14.5; RFC 4918, sections 9.1 and 10.4).
+-- or they ask for too much, or could leave too much (RFC 9110, sections 13.1, 13.2.1 and 14.5; RFC 4918, sections 9.1 and 10.4).
 use Rattle.std.specs.Prelude.{◌≡◌, ◌≢◌, ◌⊎◌, ℕ, ◌<◌, ◌≤◌, false, if◌then◌else◌, List, [], codes, Option, Some, None, Ok}
 use Rattle.http_header.specs.HeaderMap.{get_all}
 use Rattle.http_header.specs.FieldValue.{FieldValue}
@@ -19,6 +19,7 @@ use Rattle.dav_server.specs.Target.{TargetNames}
 use Rattle.dav_presented.specs.Fields.{date_of, is_absent}
 use Rattle.dav_presented.specs.Missing.{AsksForMany}
 use Rattle.dav_xml.specs.Namespaces.{document}
+use Rattle.dav_http.specs.Crowded.{IsCrowded}
 use Rattle.dav_http.specs.Placed.{IsPlaced}
 
 -- a method that is served and may change something (RFC 9110, section 9.2.1)
@@ -77,16 +78,17 @@ MayBeRefused method = (method ≡ codes "PROPFIND") ⊎ MayChange method
 pub data Refuses (s : Server) (q : Request) (body : List ℕ) : ℕ → Type 0 where
   many : AsksForTooMany q body → Refuses s q body 400
   unmet : {status : ℕ} → MayChange q.method → IsUnmet s q status → Refuses s q body status
+  crowded : MayChange q.method → ((status : ℕ) → ¬ IsUnmet s q status) → IsCrowded s q body → Refuses s q body 507
 
 -- this is the one for which it holds; none where it holds for none
 abbrev pub Tells : (ℕ → Type 0) → Option ℕ → Type 0
 Tells Holds (Some n) = Holds n
 Tells Holds None = (n : ℕ) → ¬ Holds n
 
--- An update that is run isn't one that its client would lose: where it names a moment, and no tag, what is at its target was changed at that
--- moment or before (RFC 9110, section 13.1.4).
-abbrev pub NoUpdateIsLost : Type 0
-NoUpdateIsLost =
+-- An update that is run loses no change of a later second: where it names a moment, and no tag, what is at its target was changed at that
+-- moment or before (RFC 9110, section 13.1.4). Of two changes of one second it says nothing.
+abbrev pub NoLaterSecondIsLost : Type 0
+NoLaterSecondIsLost =
     (s : Server) (q : Request) (body : List ℕ) (since moment : ℕ)
     → ((status : ℕ) → ¬ Refuses s q body status) → MayChange q.method
     → since_in (headers_of q.fields) ≡ Some since → IsChangedAt s q moment → moment ≤ since

@@ -7,6 +7,7 @@ ghost use Rattle.dav_server.specs.Head.{Request, IsHead};
 ghost use Rattle.dav_http.specs.Sent.{IsSendableTextIfAny};
 ghost use Rattle.dav_http.specs.Steps.{IsBodyOf, IsExchangeOf, IsTokenOf, with_times};
 
+mod crowded;
 mod holders;
 mod refused;
 mod saved;
@@ -180,7 +181,7 @@ impl Handler {
     ghost use Rattle.dav_server.specs.Server.{Answers};
     ghost use Rattle.dav_server.specs.Setup.{IsPrefix};
     ghost use Rattle.dav_store.specs.LockEnds.{first_ended};
-    ghost use Rattle.dav_store.specs.Used.{amount_alone, amount_at, used_bytes};
+    ghost use Rattle.dav_store.specs.Used.{amount_alone, amount_at, file_len, used_bytes};
     ghost use Rattle.dav_http.specs.Leaves.{Leaves};
     ghost use Rattle.dav_http.specs.Sent.{HoldsSendable, IsSendableTextIfAny};
     ghost use Rattle.dav_http.specs.SentLaws.{IsSendableRequest};
@@ -258,7 +259,7 @@ impl Handler {
         self.handler.locks()?.first_ended(now)
     }
 
-    /// How many bytes all files have together (RFC 4331, section 4); 2^64 - 1 where they are more. Nothing changes.
+    /// How many bytes all files and dead properties have together (RFC 4331, section 4); 2^64 - 1 where they are more. Nothing changes.
     pub fn used_bytes(&self, alloc: Global) -> Result<u64, NoMemory>
         ensures { IfOk result
             (λ used. used ≡ used_bytes self.now.server.state.store.world.nodes) }
@@ -266,8 +267,8 @@ impl Handler {
         self.handler.fs().used_bytes(alloc)
     }
 
-    /// How much is at a path and below it: files and folders, and bytes of files, 2^64 - 1 where they are more. Takes time for each node
-    /// there. Nothing changes.
+    /// How much is at a path and below it: files and folders, and bytes of files and dead properties, 2^64 - 1 where they are more.
+    /// Takes time for each node and property there. Nothing changes.
     pub fn amount_at(&self, alloc: Global, path: &DavPath) -> Result<Amount, NoMemory>
         ensures { IfOk result (λ amount. amount
             ≡ amount_at (names path.now) self.now.server.state.store.world.nodes) }
@@ -281,6 +282,13 @@ impl Handler {
             ≡ amount_alone (node_at self.now.server.state.store.world (names path.now)) }
     {
         self.handler.fs().amount_alone(path)
+    }
+
+    /// How many bytes the file at a path has; none where no file is. Nothing changes.
+    pub fn file_len(&self, path: &DavPath) -> u64
+        ensures { result ≡ file_len (node_at self.now.server.state.store.world (names path.now)) }
+    {
+        self.handler.fs().file_len(path)
     }
 
     /// What is always true of a server: its store holds a world. It does nothing.

@@ -1,6 +1,6 @@
 //! Laws of replies. Each function does nothing: its contract is a theorem on the definitions.
 ghost use Rattle.dav_http.specs.Presented.{ShownIsReadAgain};
-ghost use Rattle.dav_http.specs.Refused.{NoUpdateIsLost};
+ghost use Rattle.dav_http.specs.Refused.{NoLaterSecondIsLost};
 ghost use Rattle.dav_http.specs.Saved.{LoadsOneServer, SavedIsLoaded};
 ghost use Rattle.dav_http.specs.Steps.{StepsAreOne};
 ghost use Rattle.dav_http.specs.SentLaws.{CutsStaySendable, NewIsSendable, RunsAreReadAgain, StepsAreReadAgain, PrefixedOwnersMayBeSent, UsualOwnersMayBeSent};
@@ -47,11 +47,12 @@ pub fn saved_is_loaded()
     ensures one { LoadsOneServer }
 {}
 
-/// An update that is run isn't one that its client would lose: where it has If-Unmodified-Since with a date, and no If-Match, what is at
-/// its target was changed at that moment or before (RFC 9110, section 13.1.4).
-#[tactic(auto, using(crate::proofs::RefusedLemmas::no_update_is_lost))]
-pub fn no_update_is_lost()
-    ensures { NoUpdateIsLost }
+/// An update that is run loses no change of a later second: where it has If-Unmodified-Since with a date, and no If-Match, what is at its
+/// target was changed at that moment or before (RFC 9110, section 13.1.4). Two changes of one second have one moment: of these it says
+/// nothing, and an entity tag tells them apart.
+#[tactic(auto, using(crate::proofs::RefusedLemmas::no_later_second_is_lost))]
+pub fn no_later_second_is_lost()
+    ensures { NoLaterSecondIsLost }
 {}
 
 /// What a client is told in XML it can read, as it is and as it is shown to a PROPFIND, within the same limits (RFC 4918, section 8.2).

@@ -14,6 +14,7 @@ mod placed;
 mod presented;
 mod response;
 mod sendable;
+mod setting;
 mod uploaded;
 
 pub use ending::unlock_head;
@@ -23,4 +24,5 @@ pub use placed::{begins_past, firsts_in};
 pub use presented::{Listing, Store, present, present_listing};
 pub use response::send;
 pub use sendable::is_sendable_if_any;
+pub use setting::set_in;
 pub use uploaded::{TimeRequest, time_request};

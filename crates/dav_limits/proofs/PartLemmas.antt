@@ -1,5 +1,5 @@
 -- How much of what is at a path and below it passes a test.
-use Rattle.std.proofs.Common.{◌≡◌, inl, inr, ◌&&◌, ◌||◌, ◌+◌, ◌≤◌, ℕ, Bool, true, false, not, cond, T, true≢false, min, MatchOption, [], length, Option, Some, None, refl, sym, ap, ◌∙◌, arith}
+use Rattle.std.proofs.Common.{◌≡◌, inl, inr, ◌&&◌, ◌||◌, ◌+◌, ℕ, Bool, true, false, not, cond, T, true≢false, min, MatchOption, [], ◌∷◌, length, Option, Some, None, refl, sym, ap, ◌∙◌, arith}
 use Rattle.std.specs.FinMap.{find, is_sorted}
 use Rattle.std.specs.FinMap.Entries.{find-where_key, is_sorted-where_key, same_entries}
 use Rattle.std.specs.List.{filter, sum_by}
@@ -9,11 +9,11 @@ use Rattle.dav_core.specs.World.{Node, Nodes}
 use Rattle.dav_core.proofs.NodesLemmas.{path_exact, path_total, same_path}
 use Rattle.dav_store.specs.declared.memfs.used.Amount.{Amount}
 use Rattle.dav_store.specs.Subtrees.{under}
-use Rattle.dav_store.specs.Used.{amount_alone, amount_of, len_of}
+use Rattle.dav_store.specs.Used.{amount_alone, amount_of, len_of, size_of}
 use Rattle.dav_engine.proofs.FaultLemmas.{below_trans, one_line}
 use Rattle.dav_limits.specs.Added.{nothing}
 use Rattle.dav_limits.specs.Parts.{under_where}
-use Rattle.dav_limits.proofs.SumLemmas.{len_parts, none_left, one, same_filter, size_of, sum_parts}
+use Rattle.dav_limits.proofs.SumLemmas.{len_parts, none_left, one, same_filter, sum_parts}
 
 -- ---- tests
 
@@ -107,21 +107,21 @@ at_alone p ns sorted =
     (is_sorted-where_key path_cmp (λ q. is_same_path q p) ns sorted) (one_rises p (find path_cmp p ns))
     (λ q. find-where_key path_cmp (λ r. is_same_path r p) q (λ x e. ap (λ (r : Path). is_same_path r p) (sym (path_exact q x e))) ns ∙ by_same q p (is_same_path q p) refl ns)
 
-small : (n : ℕ) → n ≤ max_u64 → min (0 + n) max_u64 ≡ n
-small n fits = omega (arith, fits)
+amount_one : (p : Path) (o : Option Node) → amount_of (one p o) ≡ amount_alone o
+amount_one p None = refl
+amount_one p (Some n) = λ i. record { files = 1; bytes = min (alone i) max_u64 }
+  where
+    alone : sum_by len_of ((p, n) ∷ []) ≡ size_of n
+    alone = omega arith
 
-amount_one : (p : Path) (o : Option Node) → (amount_alone o).bytes ≤ max_u64 → amount_of (one p o) ≡ amount_alone o
-amount_one p None fits = refl
-amount_one p (Some n) fits = λ i. record { files = 1; bytes = small (size_of n) fits i }
-
-pub amount_single : (top p : Path) (ns : Nodes) → T (is_sorted path_cmp ns) → (amount_alone (find path_cmp p ns)).bytes ≤ max_u64 → is_at_or_under p top ≡ true
+pub amount_single : (top p : Path) (ns : Nodes) → T (is_sorted path_cmp ns) → is_at_or_under p top ≡ true
     → amount_of (under_where top (λ q. is_same_path q p) ns) ≡ amount_alone (find path_cmp p ns)
-amount_single top p ns sorted fits within =
+amount_single top p ns sorted within =
     ap amount_of (
     same_filter (λ e. is_at_or_under e.0 top && is_same_path e.0 p) (λ e. is_same_path e.0 p)
     (λ e. joined (is_at_or_under e.0 top) (is_same_path e.0 p) (λ is. ap (λ (q : Path). is_at_or_under q top) (same_path e.0 p is) ∙ within)) ns
     ∙ at_alone p ns sorted
-    ) ∙ amount_one p (find path_cmp p ns) fits
+    ) ∙ amount_one p (find path_cmp p ns)
 
 pub amount_elsewhere : (top p : Path) (ns : Nodes) → is_at_or_under p top ≡ false → amount_of (under_where top (λ q. is_same_path q p) ns) ≡ nothing
 amount_elsewhere top p ns bad =

@@ -38,10 +38,10 @@ one_firsts headers f g first second =
       one_decoded IsUpdatedFrom updated (one_updated updated) f.1 g.1 first.1 second.1 i,
     )
 
-module _ (s : Settings) (x y : Exchange) (a b : AskedView) (ask : IsAsked s x a) (other : IsAsked s y b) (same : y.head ≡ x.head) (ns : Nodes) (n : ℕ) (limits : List Limit)
+module _ (s : Settings) (x y : Exchange) (a b : AskedView) (ask : IsAsked s x a) (other : IsAsked s y b) (same : y.head ≡ x.head) (ns : Nodes) (body : List ℕ) (limits : List Limit)
     (f g : Option ℕ × Option ℕ) (named : AreFirsts (headers_of ask.request.fields) f) (also : AreFirsts (headers_of other.request.fields) g) where
   abbrev Passes : DavMethod → PathText → Option PathText → Option ℕ × Option ℕ → Type 0
-  Passes m p d h = is_past ns (record { method = m; path = p; destination = d; spoken_of = [] }) (added_by ns m p n h) limits ≡ true
+  Passes m p d h = is_past ns (record { method = m; path = p; destination = d; spoken_of = [] }) (added_by ns m p body h) limits ≡ true
 
   to : IsRequestTo s x other.request b.method b.path
   to = record { head = subst (λ (h : List ℕ). IsHead h other.request) same other.to.head; method = other.to.method; target = other.to.target }
@@ -59,7 +59,7 @@ module _ (s : Settings) (x y : Exchange) (a b : AskedView) (ask : IsAsked s x a)
       subst (λ (k : Option ℕ × Option ℕ). Passes a.method a.path a.destination k) h (subst (λ (o : Option PathText). Passes a.method a.path o g) d is)
 
   -- what another reading adds past a limit, this one does
-  pub past_once : is_past ns b (added_by ns b.method b.path n g) limits ≡ true → is_past ns a (added_by ns a.method a.path n f) limits ≡ true
+  pub past_once : is_past ns b (added_by ns b.method b.path body g) limits ≡ true → is_past ns a (added_by ns a.method a.path body f) limits ≡ true
   past_once is =
       by_reading [] s x a ask Says here other.request b.method b.path to other.says.place other.says.named also
       (subst (λ (o : Option PathText). Passes b.method b.path o g) other.says.destination is)

@@ -6,9 +6,9 @@ use Rattle.std.specs.FinMap.Entries.{below_all, find-where_key, is_sorted-where_
 use Rattle.std.specs.List.{filter, sum_by}
 use Rattle.std.specs.Ordering.{eq_by_cmp, is_lt}
 use Rattle.dav_core.specs.Path.{Path, path_cmp}
-use Rattle.dav_core.specs.World.{Node, Nodes, bytes_of}
+use Rattle.dav_core.specs.World.{Node, Nodes}
 use Rattle.dav_core.proofs.NodesLemmas.{path_exact, path_total}
-use Rattle.dav_store.specs.Used.{len_of}
+use Rattle.dav_store.specs.Used.{len_of, size_of}
 
 -- ---- two parts
 
@@ -47,9 +47,6 @@ none_left [] = refl
 none_left (e ∷ es) = none_left es
 
 -- ---- what two stores hold alike
-
-abbrev pub size_of : Node → ℕ
-size_of n = length (bytes_of n.kind)
 
 abbrev sizes : Nodes → List (Path × ℕ)
 sizes ns = map (λ e. (e.0, len_of e)) ns

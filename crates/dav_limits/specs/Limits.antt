@@ -44,12 +44,12 @@ is_too_much ns added l = nat_lt (l.most - measured l.measure (amount_at (names l
 abbrev pub is_past : Nodes → AskedView → Amount → List Limit → Bool
 is_past ns a added limits = list_any (λ l. is_counted a l && is_too_much ns added l) limits
 
--- A request with this head and a body of n bytes would add more to a server than these limits leave.
-pub record IsPast (limits : List Limit) (s : Server) (head : List ℕ) (n : ℕ) : Type 0 where
+-- A request with this head and body would add more to a server than these limits leave.
+pub record IsPast (limits : List Limit) (s : Server) (head body : List ℕ) : Type 0 where
   pub exchange : Exchange
   pub here : exchange.head ≡ head
   pub asks : AskedView
   pub asked : IsAsked s.settings exchange asks
   pub firsts : Option ℕ × Option ℕ
   pub named : AreFirsts (headers_of asked.request.fields) firsts
-  pub past : is_past s.state.store.world.nodes asks (added_by s.state.store.world.nodes asks.method asks.path n firsts) limits ≡ true
+  pub past : is_past s.state.store.world.nodes asks (added_by s.state.store.world.nodes asks.method asks.path body firsts) limits ≡ true

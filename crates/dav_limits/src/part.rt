@@ -1,5 +1,5 @@
 //! How much of what is at a path and below it a request may change.
-ghost use Rattle.std.specs.Prelude.{◌≡◌, ◌≤◌, ◌+◌, min, ◌||◌, ⊤, IfOk, MatchOption, Some};
+ghost use Rattle.std.specs.Prelude.{◌≡◌, ◌+◌, min, ◌||◌, ⊤, IfOk, MatchOption, Some};
 ghost use Rattle.dav_core.specs.Numbers.{max_u64};
 ghost use Rattle.dav_core.specs.Path.{is_at_or_under, is_same_path, names};
 ghost use Rattle.dav_store.specs.Used.{amount_of};
@@ -20,13 +20,6 @@ pub(crate) fn nothing() -> Amount
     ensures { result ≡ nothing }
 {
     Amount { files: 0, bytes: 0 }
-}
-
-// Sees that a number is one of 64 bits.
-fn see_number(number: u64)
-    ensures { number ≤ max_u64 }
-{
-    let _ = number;
 }
 
 // How much is at a path and below it, of what is at another and below that.
@@ -55,9 +48,7 @@ fn alone(handler: &Handler, top: &DavPath, path: &DavPath) -> Amount
 {
     handler.see_world();
     if path.is_at_or_under(top) {
-        let amount = handler.amount_alone(path);
-        see_number(amount.bytes);
-        amount
+        handler.amount_alone(path)
     } else {
         nothing()
     }

@@ -33,9 +33,11 @@ fn adds_under(asked: &Asked, path: &DavPath) -> bool
         (place_by asked.now.method asked.now.path asked.now.destination) (names path.now) }
 {
     match asked.method {
-        DavMethod::Put | DavMethod::Patch | DavMethod::MkCol | DavMethod::Lock => {
-            asked.path.is_at_or_under(path)
-        }
+        DavMethod::Put
+        | DavMethod::Patch
+        | DavMethod::MkCol
+        | DavMethod::PropPatch
+        | DavMethod::Lock => asked.path.is_at_or_under(path),
         DavMethod::Copy | DavMethod::Move => match &asked.destination {
             Some(destination) => destination.is_at_or_under(path),
             None => false,
@@ -107,21 +109,22 @@ fn is_past_any(
     Ok(false)
 }
 
-/// Whether a request with this head and a body of so many bytes would add more than these limits leave (RFC 4918, section 11.5). A
-/// PUT, PATCH, MKCOL or LOCK adds a file or folder where none is, a PUT or PATCH the bytes by which its file gets longer, at most; a
-/// COPY or MOVE all that is at its target and below it, a MOVE not where that is already. One that the machine doesn't read adds
-/// nothing. It takes time for each node that is copied or moved, and for each at a limit's path and below it that isn't watched.
+/// Whether a request with this head and body would add more than these limits leave (RFC 4918, section 11.5). A PUT, PATCH, MKCOL or
+/// LOCK adds a file or folder where none is, a PUT or PATCH the bytes by which its file gets longer, at most; a PROPPATCH the
+/// properties that it sets, at most; a COPY or MOVE all that is at its target and below it, a MOVE not where that is already. One that
+/// the machine doesn't read adds nothing. It takes time for each node that is copied or moved, and for each at a limit's path and
+/// below it that isn't watched.
 pub fn is_past(
     alloc: Global,
     limits: &[Limit],
     watches: &Watches,
     handler: &Handler,
     head: &[u8],
-    len: u64,
+    body: &[u8],
 ) -> Result<bool, NoMemory>
     requires { AreExact handler.now.server watches.now }
     ensures { IfOk result (λ is. Decides is
-        (spec.IsPast limits.now handler.now.server head.now len)) }
+        (spec.IsPast limits.now handler.now.server head.now body.now)) }
 {
     if limits.is_empty() {
         return Ok(false);
@@ -133,6 +136,6 @@ pub fn is_past(
         return Ok(false);
     };
     let firsts = firsts_in(alloc, &read)?;
-    let added = added(alloc, handler, &asked, len, firsts)?;
+    let added = added(alloc, handler, &asked, body, firsts)?;
     Ok(is_past_any(alloc, limits, watches, handler, &asked, added)?)
 }

@@ -129,7 +129,7 @@ unrefused_method s came q (most, strict, kept, is_kept, says) never n (mine, is,
 
 module _ (rules : Option Rules) (limits : List Limit) (s : Server) (came : Request) (q : RequestView) (own : ¬ IsBarred rules s came q) (unrefused : (status : ℕ) → ¬ IsRefused s q status) where
   -- what would add no more than limits leave is run
-  pub run_within : ¬ IsPast limits s q.head (length q.body) → (n : ℕ) → ¬ IsNotRun rules limits s came q n
+  pub run_within : ¬ IsPast limits s q.head q.body → (n : ℕ) → ¬ IsNotRun rules limits s came q n
   run_within within _ (barred bars) = own bars
   run_within within n (refused also refuses) = unrefused n refuses
   run_within within _ (full also none past) = within past

@@ -97,7 +97,7 @@ IsRefused s q status = (kept : Request) × IsHead q.head kept × Refuses s kept 
 pub data IsNotRun (rules : Option Rules) (limits : List Limit) (s : Server) (came : Request) (q : RequestView) : ℕ → Type 0 where
   barred : IsBarred rules s came q → IsNotRun rules limits s came q (barred_status q.principal)
   refused : {status : ℕ} → ¬ IsBarred rules s came q → IsRefused s q status → IsNotRun rules limits s came q status
-  full : ¬ IsBarred rules s came q → ((status : ℕ) → ¬ IsRefused s q status) → IsPast limits s q.head (length q.body)
+  full : ¬ IsBarred rules s came q → ((status : ℕ) → ¬ IsRefused s q status) → IsPast limits s q.head q.body
       → IsNotRun rules limits s came q 507
 
 -- These bytes are the head that is kept of a request that came, whatever the longest time of a lock is, and whatever is left to the machine.

@@ -24,7 +24,7 @@ use dav_core::errors::NoMemory;
 use dav_engine::{Caller, Reply, ReplyBody};
 use dav_http::{
     HandleError as HttpError, Handler, Head, Listing, Store, leaves, may_be_refused, method_of,
-    present, present_listing, send, unlock_head,
+    present, present_listing, send, set_in, unlock_head,
 };
 use dav_kept::{Effect, HandleError, Handles, Request};
 use dav_limits::{Watches, is_past};
@@ -231,16 +231,16 @@ impl Machine {
     // Whether a request would add more than limits leave.
     fn is_past(&self, limits: &[Limit], request: &Request<'_>) -> Result<bool, NoMemory>
         ensures { IfOk result (λ is. Decides is
-            (IsPast limits.now self.now request.now.head (length request.now.body))) }
+            (IsPast limits.now self.now request.now.head request.now.body)) }
     {
-        let (watches, len) = (&self.watches, request.body.len() as u64);
+        let (watches, body) = (&self.watches, request.body.as_slice());
         is_past(
             self.alloc,
             limits,
             watches,
             &self.handler,
             request.head,
-            len,
+            body,
         )
     }
 }
@@ -441,6 +441,12 @@ impl Machine {
         Ok(needed_for_copies(there.files, there.bytes))
     }
 
+    // How many bytes a PROPPATCH with this body takes at most.
+    fn set_by(&self, body: &[u8]) -> Result<u64, NoMemory> {
+        let set = set_in(self.alloc, body)?;
+        Ok(needed_for_copies(set.count, set.bytes.max(body.len() as u64)))
+    }
+
     // How many bytes a request takes at most of what can still be stored.
     fn needed_by(&self, request: &Request<'_>) -> Result<u64, NoMemory> {
         let method = method_of(request.head);
@@ -448,6 +454,8 @@ impl Machine {
             self.copied_by(request.head)
         } else if stores_nothing(method) {
             Ok(0)
+        } else if method == b"PROPPATCH".as_slice() {
+            self.set_by(request.body.as_slice())
         } else {
             Ok(needed_for(request.body.len() as u64))
         }

@@ -1,6 +1,7 @@
 pub mod NameLemmas
 pub mod Place
 pub mod PropertyLemmas
+pub mod SizeLemmas
 pub mod KeyTree
 pub mod MemberLemmas
 pub mod CopyLemmas

@@ -21,5 +21,6 @@ pub mod Loaded
 pub mod Subtrees
 pub mod PartsOf
 pub mod Passing
+pub mod Sizes
 pub mod Used
 pub mod KeyOrder

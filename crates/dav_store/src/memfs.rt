@@ -20,6 +20,7 @@ use crate::entries::{self, Entries, changes, listing};
 use crate::names::{Name, Names};
 use crate::node::Node;
 use crate::properties::Properties;
+pub use crate::properties::tree_len;
 use dav_core::davpath::DavPath;
 use dav_core::errors::{FsError, FsResult, NoMemory};
 use dav_core::fs::{DavProp, OpenOptions};
@@ -27,7 +28,7 @@ use http::StatusCode;
 use std::alloc::Global;
 use std::io::SeekFrom;
 use std::marker::Model;
-pub use used::Amount;
+pub use used::{Amount, Stored};
 
 /// The most bytes that a file can hold.
 pub const MAX_FILE_LEN: u64 = 2_147_483_647;

@@ -11,12 +11,14 @@ ghost use Rattle.dav_store.specs.Answered.{answer_to};
 mod order;
 mod passing;
 mod saved;
+mod size;
 mod tree;
 
 use dav_core::davprop::DavProp;
 use dav_core::element::Element;
 use dav_core::errors::NoMemory;
 use http::StatusCode;
+pub use size::tree_len;
 use std::alloc::Global;
 use std::cmp::Ordering;
 use std::marker::Model;

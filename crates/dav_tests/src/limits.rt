@@ -36,13 +36,13 @@ MOVE /a/d/g HTTP/1.1^Destination: /b^^ -> 6 20, 4 10, 2 0
 MOVE /a/f HTTP/1.1^Destination: /a/d/f^^ -> 6 20, 4 10, 3 10
 MOVE /a/d HTTP/1.1^Destination: /d^^ -> 6 20, 1 0, 0 0
 MOVE /d HTTP/1.1^Destination: /a^^ -> 5 20, 3 10, 0 0
-PROPPATCH /a HTTP/1.1^^<propertyupdate xmlns='DAV:'><set><prop><x xmlns='u:'>text</x></prop></set></propertyupdate> -> 5 20, 3 10, 0 0
-LOCK /a/n HTTP/1.1^^<lockinfo xmlns='DAV:'><lockscope><exclusive/></lockscope><locktype><write/></locktype></lockinfo> -> 6 20, 4 10, 0 0
-GET /a/f HTTP/1.1^^ -> 6 20, 4 10, 0 0
-not a head -> 6 20, 4 10, 0 0
-DELETE /a/e HTTP/1.1^^ -> 5 20, 3 10, 0 0
-DELETE /a HTTP/1.1^^ -> 5 20, 3 10, 0 0
-DELETE /b HTTP/1.1^^ -> 4 10, 3 10, 0 0
+PROPPATCH /a HTTP/1.1^^<propertyupdate xmlns='DAV:'><set><prop><x xmlns='u:'>text</x></prop></set></propertyupdate> -> 5 30, 3 20, 0 0
+LOCK /a/n HTTP/1.1^^<lockinfo xmlns='DAV:'><lockscope><exclusive/></lockscope><locktype><write/></locktype></lockinfo> -> 6 30, 4 20, 0 0
+GET /a/f HTTP/1.1^^ -> 6 30, 4 20, 0 0
+not a head -> 6 30, 4 20, 0 0
+DELETE /a/e HTTP/1.1^^ -> 5 30, 3 20, 0 0
+DELETE /a HTTP/1.1^^ -> 5 30, 3 20, 0 0
+DELETE /b HTTP/1.1^^ -> 4 20, 3 20, 0 0
 ";
 
 // Limits as `measure path most`, and which requests would pass them, where `/a`, a folder, has the file `/a/f` of five bytes, and `/b`
@@ -94,6 +94,15 @@ space /a 10; MOVE /b HTTP/1.1^Destination: /a/b^^ -> yes
 space /a 5; MOVE /a/f HTTP/1.1^Destination: /a/g^^ -> no
 space / 11; MOVE /b HTTP/1.1^Destination: /a/b^^ -> no
 files / 5; MOVE /b HTTP/1.1^Destination: /a/b^^ -> no
+# properties: twice the bytes of what is set, with `set` and `prop`; what is removed adds none
+space / 28; PROPPATCH /a HTTP/1.1^^<a><set><prop><b/></prop></set></a> -> no
+space / 26; PROPPATCH /a HTTP/1.1^^<a><set><prop><b/></prop></set></a> -> yes
+space /a 21; PROPPATCH /a/f HTTP/1.1^^<a><set><prop><b/></prop></set></a> -> no
+space /a 20; PROPPATCH /a/f HTTP/1.1^^<a><set><prop><b/></prop></set></a> -> yes
+space /a 22; PROPPATCH /a/f HTTP/1.1^^<a><set><prop><b/></prop></set><set/></a> -> yes
+space /b 6; PROPPATCH /a/f HTTP/1.1^^<a><set><prop><b/></prop></set></a> -> no
+space / 0; PROPPATCH /a HTTP/1.1^^<a><remove><prop><b/></prop></remove></a> -> no
+space / 0; PROPPATCH /a HTTP/1.1^^<a><set> -> no
 # what adds nothing
 space / 0; GET /a/f HTTP/1.1^^ -> no
 space / 0; DELETE /a/f HTTP/1.1^^ -> no
@@ -165,12 +174,11 @@ impl Watched {
         bytes: &[u8],
     ) -> Result<(bool, bool), NoMemory> {
         let (head, body) = parts(bytes);
-        let len = body.len() as u64;
         let none = Watches::new(alloc);
-        let known = is_past(alloc, limits, &self.watches, &self.server, head, len)?;
+        let known = is_past(alloc, limits, &self.watches, &self.server, head, body)?;
         Ok((
             known,
-            is_past(alloc, limits, &none, &self.server, head, len)?,
+            is_past(alloc, limits, &none, &self.server, head, body)?,
         ))
     }
 }

@@ -208,8 +208,10 @@ impl Handler {
 
     /// With which status a request with this head and body is answered, where it isn't to be run; `None` where it is. 400 where a
     /// PROPFIND asks for more than 1,000 properties by their names, and where an If, an If-Match or an If-None-Match of a request
-    /// that may change something means nothing, or its Content-Range names no bytes (RFC 9110, section 14.5); 412 where what is at its target was changed after the moment in its
-    /// If-Unmodified-Since, which counts without If-Match (RFC 9110, section 13.1.4). Nothing changes.
+    /// that may change something means nothing, or its Content-Range names no bytes (RFC 9110, section 14.5); 412 where what is at
+    /// its target was changed after the moment in its If-Unmodified-Since, which counts without If-Match (RFC 9110, section 13.1.4);
+    /// 507 where a PROPPATCH sets so many dead properties (`set_in`) that its target would have more than 50,000, or more than 8 MiB of
+    /// them, with those that it has (RFC 4918, section 9.2.1). Nothing changes.
     pub fn refusal(
         &self,
         alloc: Global,
@@ -226,6 +228,12 @@ impl Handler {
             return Ok(None);
         }
         let headers = headers_of(alloc, head.view())?;
-        self.refusal_by(alloc, head, &headers)
+        if let Some(status) = self.refusal_by(alloc, head, &headers)? {
+            return Ok(Some(status));
+        }
+        if self.is_crowded(alloc, head, body)? {
+            return Ok(Some(StatusCode::INSUFFICIENT_STORAGE));
+        }
+        Ok(None)
     }
 }

@@ -39,8 +39,8 @@ returns c =
     let firsts = c.in_ok-firsts.firsts in
     let one : asked.request ≡ c.in-Some.read = one_head head asked.request c.in-Some.read asked.to.head c.in-Some.ensures in
     let named : AreFirsts (headers_of asked.request.fields) firsts = subst (λ (r : Request). AreFirsts (headers_of r.fields) firsts) (sym one) c.in_ok-firsts.ensures in
-    let value : c.in_ok-is_past_any.field-0 ≡ is_past ns asks (added_by ns asks.method asks.path c.args.len firsts) c.args.limits.now =
+    let value : c.in_ok-is_past_any.field-0 ≡ is_past ns asks (added_by ns asks.method asks.path c.args.body.now firsts) c.args.limits.now =
     c.in_ok-is_past_any.ensures ∙ ap (λ (a : Amount). is_past ns asks a c.args.limits.now) c.in_ok-added.ensures in (
       λ yes. record { exchange = x; here = refl; asks = asks; asked = asked; firsts = firsts; named = named; past = sym value ∙ yes },
-      λ p. value ∙ past_once s x p.exchange asks p.asks asked p.asked p.here ns c.args.len c.args.limits.now firsts p.firsts named p.named p.past,
+      λ p. value ∙ past_once s x p.exchange asks p.asks asked p.asked p.here ns c.args.body.now c.args.limits.now firsts p.firsts named p.named p.past,
     )

@@ -7,12 +7,10 @@ use Rattle.dav_core.specs.Path.{Path, is_at_or_under, path_cmp}
 use Rattle.dav_core.specs.World.{Node}
 use Rattle.dav_store.specs.Subtrees.{under}
 use Rattle.dav_store.specs.Used.{len_of, used_bytes}
+use Rattle.dav_store.proofs.SizeLemmas.{and_one}
 use Rattle.dav_store.proofs.SubtreeLemmas.{find-under, placed_at, sorted-under}
 use Rattle.dav_store.proofs.LoadedWorlds.{one_more}
 use Rattle.dav_store.proofs.memfs.used.used_bytes.Goals as goal
-
-capped : (s k m : ℕ) → min (min s m + k) m ≡ min (s + k) m
-capped s k m = omega arith
 
 alone : (e : Path × Node) → len_of e ≡ sum_by len_of (e ∷ [])
 alone e = omega arith
@@ -30,9 +28,7 @@ loop-path-preserved c =
     let p = placed_at ns c.args.paths.now i c.path-item.result (sorted-under top all c.see_sorted.ensures) c.requires c.loop-path-test.true c.path-item.is in
     let k = c.path-item.result in
     let there : find path_cmp k all ≡ Some p.entry.1 = within (is_at_or_under k top) (find path_cmp k all) p.entry.1 (sym (find-under top k all) ∙ p.found) in
-    c.saturating_add-used.ensures
-    ∙ ap (λ (n : ℕ). min (n + c.len_at.result) max_u64) c.loop-path.invariant
-    ∙ capped (sum_by len_of (take i ns)) c.len_at.result max_u64
-    ∙ ap (λ (n : ℕ). min (sum_by len_of (take i ns) + n) max_u64) (c.len_at.ensures p.entry.1 there ∙ alone p.entry)
-    ∙ ap (λ (n : ℕ). min n max_u64) (sym (sum_by-append len_of (take i ns) (p.entry ∷ [])))
+    c.and_size_at-used.ensures p.entry.1 there
+    ∙ and_one c.loop-path.used (sum_by len_of (take i ns)) (len_of p.entry) c.loop-path.invariant
+    ∙ ap (λ (n : ℕ). min n max_u64) (ap (λ (n : ℕ). sum_by len_of (take i ns) + n) (alone p.entry) ∙ sym (sum_by-append len_of (take i ns) (p.entry ∷ [])))
     ∙ ap used_bytes (sym (one_more ns i p.entry p.within p.is))
