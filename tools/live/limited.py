@@ -11,8 +11,8 @@ from leave import names
 
 Limit = collections.namedtuple("Limit", "path measure most")
 # What a request asks for. `begins` is where the body of a part begins: a place, one before the end where it is below 0, or "end"; None where
-# the body is the whole file.
-Request = collections.namedtuple("Request", "method target destination body begins depth", defaults=(None, b"", None, "infinity"))
+# the body is the whole file. What a PROPPATCH does: of each property its namespace, its name and its text, or None where it is removed.
+Request = collections.namedtuple("Request", "method target destination body begins depth patches", defaults=(None, b"", None, "infinity", ()))
 SCALES = {"k": 1 << 10, "m": 1 << 20, "g": 1 << 30}
 
 
@@ -26,11 +26,21 @@ def limits_of(text):
     return [Limit(names(words[1]), words[0], amount(words[2])) for words in lines if words and words[0] in ("files", "space")]
 
 
+def element(namespace, name, text):
+    """How many bytes an element has: those of its namespace, its name and its text."""
+    return len(namespace) + len(name) + len(text)
+
+
+def property_length(key, text):
+    """How many bytes a property has: it is known by its namespace and name, and has its element."""
+    return len(key[0]) + len(key[1]) + element(*key, text)
+
+
 class Tree:
-    """What is there: of each path the bytes of a file, or None for a folder."""
+    """What is there: of each path the bytes of a file, or None for a folder; and of each path its properties, by namespace and name."""
 
     def __init__(self):
-        self.nodes = {(): None}
+        self.nodes, self.properties = {(): None}, {}
 
     def has(self, path):
         return path in self.nodes
@@ -43,11 +53,15 @@ class Tree:
 
     def used(self, measure, path):
         found = self.at_and_below(path)
-        return len(found) if measure == "files" else sum(len(data or b"") for data in found.values())
+        if measure == "files":
+            return len(found)
+        stored = sum(property_length(key, text) for at in found for key, text in self.properties.get(at, {}).items())
+        return stored + sum(len(data or b"") for data in found.values())
 
     def remove(self, path):
         for at in self.at_and_below(path):
             del self.nodes[at]
+            self.properties.pop(at, None)
 
 
 def begin_of(tree, request):
@@ -76,6 +90,10 @@ def added(tree, request):
         return request.target, {"files": int(not tree.has(request.target)), "space": max(0, more)}
     if request.method in ("MKCOL", "LOCK"):
         return request.target, {"files": int(not tree.has(request.target)), "space": 0}
+    if request.method == "PROPPATCH":
+        parts = [element(*patch) for patch in request.patches if patch[2] is not None]
+        # (D:set and D:prop, with their prefix and namespace)
+        return request.target, {"files": 0, "space": 2 * (len("setDDAV:") + len("propDDAV:") + sum(parts)) if parts else 0}
     if request.method in ("COPY", "MOVE"):
         return request.destination, {measure: tree.used(measure, request.target) for measure in ("files", "space")}
     return request.target, {"files": 0, "space": 0}
@@ -99,6 +117,12 @@ def do(tree, request, status):
     method, target, to = request.method, request.target, request.destination
     if method == "MOVE" and status == 403 and to[:len(target)] == target != to:
         tree.remove(to)  # what a MOVE below itself was to replace is gone before it is refused
+    if method == "PROPPATCH" and status == 207:
+        for namespace, name, text in request.patches:
+            stored = tree.properties.setdefault(target, {})
+            stored.pop((namespace, name), None)
+            if text is not None:
+                stored[namespace, name] = text
     if status not in (200, 201, 204):
         return
     if method in ("PUT", "PATCH"):
@@ -117,9 +141,11 @@ def do(tree, request, status):
         if request.depth != "0" or tree.nodes.get(to) is not None:  # a folder that is there stays where only a folder itself is copied
             tree.remove(to)
         taken = {at[len(target):]: data for at, data in tree.at_and_below(target).items() if request.depth != "0" or at == target}
+        stored = {at: dict(tree.properties.get(target + at, {})) for at in taken}
         if method == "MOVE":
             tree.remove(target)
         tree.nodes.update((to + at, data) for at, data in taken.items())
+        tree.properties.update((to + at, properties) for at, properties in stored.items())
 
 
 def quota(limits, tree, path):
