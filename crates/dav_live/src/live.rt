@@ -10,9 +10,11 @@ use crate::lists::Lists;
 use crate::machine::Machine;
 use crate::service::{Service, preface};
 use crate::settings::Settings;
+use dav_core::errors::NoMemory;
 use dav_http::Handler;
 use dav_journal::Pair;
 use dav_kept::{Keeps, adopt};
+use dav_store::memfs::Amount;
 use dav_turns::{Pipe, ReadError, Turns, TurnsConfig};
 use dav_wire::Config;
 use http1::Limits;
@@ -55,6 +57,7 @@ impl<D: Disk + Drop> Live<D> {
     ghost use Rattle.dav_kept.specs.Kept.{Snapshot, answer_step, held_by, is_new, journal_of};
     ghost use Rattle.dav_kept.specs.Life.{IsRunSince};
     ghost use Rattle.dav_server.specs.Server.{Server as ServerValue};
+    ghost use Rattle.dav_store.specs.Used.{amount_at};
     ghost use Rattle.dav_turns.specs.Frames.{BeginsWith, Order, ReportView, order_bytes};
     ghost use Rattle.dav_turns.specs.Turns.{Turn};
     ghost use Rattle.dav_live.specs.Answers.{IsAnswer};
@@ -104,6 +107,15 @@ impl<D: Disk + Drop> Live<D> {
         ensures { result ≡ is_new (kept_in self.now) }
     {
         self.service.is_new()
+    }
+
+    /// How many files and folders there are, the one at the top too, and how many bytes these and their dead properties have. Takes
+    /// time for each of them.
+    pub fn amount(&self) -> Result<Amount, NoMemory>
+        ensures { IfOk result (λ amount. amount
+            ≡ amount_at [] (held_by (kept_in self.now)).state.state.store.world.nodes) }
+    {
+        self.service.handler().amount()
     }
 
     /// Reads bytes of the state's file.

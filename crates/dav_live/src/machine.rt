@@ -31,6 +31,7 @@ use dav_limits::{Watches, is_past};
 use dav_presented::typed::with_types;
 use dav_saved::LoadError;
 use dav_seen::{LookError, way_reply};
+use dav_store::memfs::Amount;
 use http::StatusCode;
 use http_server::Response;
 use std::alloc::Global;
@@ -412,6 +413,17 @@ fn effect_of(head: &Head<'_>, status: u16) -> Effect
 }
 
 impl Machine {
+    ghost use Rattle.std.specs.Prelude.{◌≡◌, [], IfOk};
+    ghost use Rattle.dav_store.specs.Used.{amount_at};
+
+    /// How many files and folders there are, the one at the top too, and how many bytes. Takes time for each of them.
+    pub fn amount(&self) -> Result<Amount, NoMemory>
+        ensures { IfOk result (λ amount. amount ≡ amount_at [] self.now.state.store.world.nodes) }
+    {
+        let top = DavPath::from_parts(self.alloc, "", b"/")?;
+        Ok(self.handler.amount_at(self.alloc, &top)?)
+    }
+
     // Where the limit of bytes is that leaves least of those that count what is at a path, if there is one, and how many bytes can
     // still be stored there.
     fn room_at(&self, path: &DavPath) -> Result<(Option<&DavPath>, u64), NoMemory> {

@@ -110,6 +110,13 @@ impl<H: Ends + Drop, J: Keeps + Drop> Service<H, J> {
         }
     }
 
+    /// What answers the requests.
+    pub fn handler(&self) -> &H
+        ensures { result.now ≡ (held_of self.now).state }
+    {
+        self.kept.handler()
+    }
+
     /// Whether nothing was ever kept: the state has no block.
     pub fn is_new(&self) -> bool
         ensures { result ≡ is_new (kept_of self.now) }

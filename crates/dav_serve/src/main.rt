@@ -102,6 +102,15 @@ fn owned(
     }
 }
 
+// Says how much a server has, where there is memory to count it.
+fn say_amount(rt: &HostRuntime, live: &Live<Owned>) {
+    if let Ok(amount) = live.amount() {
+        let (count, bytes) = (amount.files.saturating_sub(1), amount.bytes);
+        // A failed write to standard error can't be reported anywhere.
+        let _ = eprintln!(rt; "serve: files and folders there: {count}, bytes: {bytes}");
+    }
+}
+
 // A server that was opened, ready for requests.
 fn made_ready(
     rt: &HostRuntime,
@@ -121,6 +130,7 @@ fn made_ready(
     if is_ruled {
         note_ruled(rt, alloc, folder)?;
     }
+    say_amount(rt, &live);
     Ok(live)
 }
 
