@@ -6,7 +6,7 @@ use thiserror::Error;
 #[derive(Clone, Copy, Debug, PartialEq, Eq, Error)]
 pub enum UsersError {
     /// The line with this number, from 1, is none of a user.
-    #[error("line {0} isn't name:$5$.. as `openssl passwd -5` makes it, or its name can't be written in XML")]
+    #[error("line {0} isn't name:$5$.. as `vuldarg user NAME` writes it, or its name can't be written in XML")]
     Line(usize),
     /// There is no user.
     #[error("there is no user in it")]

@@ -121,9 +121,9 @@ USERS | - -> ok
 USERS | read / anna;write /ben ben -> ok
 USERS | # nothing -> ok
 USERS |  -> ok
-x | - -> users: line 1 isn't name:$5$.. as `openssl passwd -5` makes it, or its name can't be written in XML
+x | - -> users: line 1 isn't name:$5$.. as `vuldarg user NAME` writes it, or its name can't be written in XML
  | - -> users: there is no user in it
-x | y -> users: line 1 isn't name:$5$.. as `openssl passwd -5` makes it, or its name can't be written in XML
+x | y -> users: line 1 isn't name:$5$.. as `vuldarg user NAME` writes it, or its name can't be written in XML
 USERS | read / anna;wirte /ben ben -> access: line 2: there is no right 'wirte'
 USERS | read -> access: line 1: there is no path in it
 USERS | ;;read /a/../../b anna -> access: line 3: its path can't be read: ForbiddenPath

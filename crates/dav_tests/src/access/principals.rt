@@ -15,22 +15,22 @@ anna:$5$rounds=1000$aa$ih1prkhg9Lg0AGuY3ILPnD.W7vwH5Hc6Fu72rE8aTE2␍↵bert:$5$
  -> there is no user in it
 ↵↵ -> there is no user in it
 # anna↵ -> there is no user in it
-anna -> line 1 isn't name:$5$.. as `openssl passwd -5` makes it, or its name can't be written in XML
-anna:secret -> line 1 isn't name:$5$.. as `openssl passwd -5` makes it, or its name can't be written in XML
-anna:<NULL> -> line 1 isn't name:$5$.. as `openssl passwd -5` makes it, or its name can't be written in XML
-↵#↵anna: $5$rounds=1000$aa$ih1prkhg9Lg0AGuY3ILPnD.W7vwH5Hc6Fu72rE8aTE2 -> line 3 isn't name:$5$.. as `openssl passwd -5` makes it, or its name can't be written in XML
-anna :$5$rounds=1000$aa$ih1prkhg9Lg0AGuY3ILPnD.W7vwH5Hc6Fu72rE8aTE2x -> line 1 isn't name:$5$.. as `openssl passwd -5` makes it, or its name can't be written in XML
-:$5$rounds=1000$aa$ih1prkhg9Lg0AGuY3ILPnD.W7vwH5Hc6Fu72rE8aTE2 -> line 1 isn't name:$5$.. as `openssl passwd -5` makes it, or its name can't be written in XML
-anna:$5$rounds=1000$aa$ih1prkhg9Lg0AGuY3ILPnD.W7vwH5Hc6Fu72rE8aTE2↵bert:$5$rounds=1000$bb$h/fwQ20z8usGQjhs.06seWJvzk7zvCZgiEkgwAPkcxD↵carl:$5$x -> line 3 isn't name:$5$.. as `openssl passwd -5` makes it, or its name can't be written in XML
-anna:$5$rounds=1000$aa$ih1prkhg9Lg0AGuY3ILPnD.W7vwH5Hc6Fu72rE8aTE2↵carl↵dora -> line 2 isn't name:$5$.. as `openssl passwd -5` makes it, or its name can't be written in XML
-an①na:$5$rounds=1000$aa$ih1prkhg9Lg0AGuY3ILPnD.W7vwH5Hc6Fu72rE8aTE2 -> line 1 isn't name:$5$.. as `openssl passwd -5` makes it, or its name can't be written in XML
-an②na:$5$rounds=1000$aa$ih1prkhg9Lg0AGuY3ILPnD.W7vwH5Hc6Fu72rE8aTE2 -> line 1 isn't name:$5$.. as `openssl passwd -5` makes it, or its name can't be written in XML
-anna:$5$rounds=1000$aa$ih1prkhg9Lg0AGuY3ILPnD.W7vwH5Hc6Fu72rE8aTE2↵↵↵an③na:$5$rounds=1000$aa$ih1prkhg9Lg0AGuY3ILPnD.W7vwH5Hc6Fu72rE8aTE2↵ -> line 4 isn't name:$5$.. as `openssl passwd -5` makes it, or its name can't be written in XML
-anna:$5$rounds=1000$aa$ih1prkhg9Lg0AGuY3ILPnD.W7vwH5Hc6Fu72rE8aTE -> line 1 isn't name:$5$.. as `openssl passwd -5` makes it, or its name can't be written in XML
-anna:$5$rounds=1000$aa$ih1prkhg9Lg0AGuY3ILPnD.W7vwH5Hc6Fu72rE8aTE2. -> line 1 isn't name:$5$.. as `openssl passwd -5` makes it, or its name can't be written in XML
-anna:$5$seventeenbyteslong$ih1prkhg9Lg0AGuY3ILPnD.W7vwH5Hc6Fu72rE8aTE2 -> line 1 isn't name:$5$.. as `openssl passwd -5` makes it, or its name can't be written in XML
-anna:$6$rounds=1000$aa$ih1prkhg9Lg0AGuY3ILPnD.W7vwH5Hc6Fu72rE8aTE2 -> line 1 isn't name:$5$.. as `openssl passwd -5` makes it, or its name can't be written in XML
-an:na:$5$rounds=1000$aa$ih1prkhg9Lg0AGuY3ILPnD.W7vwH5Hc6Fu72rE8aTE2 -> line 1 isn't name:$5$.. as `openssl passwd -5` makes it, or its name can't be written in XML
+anna -> line 1 isn't name:$5$.. as `vuldarg user NAME` writes it, or its name can't be written in XML
+anna:secret -> line 1 isn't name:$5$.. as `vuldarg user NAME` writes it, or its name can't be written in XML
+anna:<NULL> -> line 1 isn't name:$5$.. as `vuldarg user NAME` writes it, or its name can't be written in XML
+↵#↵anna: $5$rounds=1000$aa$ih1prkhg9Lg0AGuY3ILPnD.W7vwH5Hc6Fu72rE8aTE2 -> line 3 isn't name:$5$.. as `vuldarg user NAME` writes it, or its name can't be written in XML
+anna :$5$rounds=1000$aa$ih1prkhg9Lg0AGuY3ILPnD.W7vwH5Hc6Fu72rE8aTE2x -> line 1 isn't name:$5$.. as `vuldarg user NAME` writes it, or its name can't be written in XML
+:$5$rounds=1000$aa$ih1prkhg9Lg0AGuY3ILPnD.W7vwH5Hc6Fu72rE8aTE2 -> line 1 isn't name:$5$.. as `vuldarg user NAME` writes it, or its name can't be written in XML
+anna:$5$rounds=1000$aa$ih1prkhg9Lg0AGuY3ILPnD.W7vwH5Hc6Fu72rE8aTE2↵bert:$5$rounds=1000$bb$h/fwQ20z8usGQjhs.06seWJvzk7zvCZgiEkgwAPkcxD↵carl:$5$x -> line 3 isn't name:$5$.. as `vuldarg user NAME` writes it, or its name can't be written in XML
+anna:$5$rounds=1000$aa$ih1prkhg9Lg0AGuY3ILPnD.W7vwH5Hc6Fu72rE8aTE2↵carl↵dora -> line 2 isn't name:$5$.. as `vuldarg user NAME` writes it, or its name can't be written in XML
+an①na:$5$rounds=1000$aa$ih1prkhg9Lg0AGuY3ILPnD.W7vwH5Hc6Fu72rE8aTE2 -> line 1 isn't name:$5$.. as `vuldarg user NAME` writes it, or its name can't be written in XML
+an②na:$5$rounds=1000$aa$ih1prkhg9Lg0AGuY3ILPnD.W7vwH5Hc6Fu72rE8aTE2 -> line 1 isn't name:$5$.. as `vuldarg user NAME` writes it, or its name can't be written in XML
+anna:$5$rounds=1000$aa$ih1prkhg9Lg0AGuY3ILPnD.W7vwH5Hc6Fu72rE8aTE2↵↵↵an③na:$5$rounds=1000$aa$ih1prkhg9Lg0AGuY3ILPnD.W7vwH5Hc6Fu72rE8aTE2↵ -> line 4 isn't name:$5$.. as `vuldarg user NAME` writes it, or its name can't be written in XML
+anna:$5$rounds=1000$aa$ih1prkhg9Lg0AGuY3ILPnD.W7vwH5Hc6Fu72rE8aTE -> line 1 isn't name:$5$.. as `vuldarg user NAME` writes it, or its name can't be written in XML
+anna:$5$rounds=1000$aa$ih1prkhg9Lg0AGuY3ILPnD.W7vwH5Hc6Fu72rE8aTE2. -> line 1 isn't name:$5$.. as `vuldarg user NAME` writes it, or its name can't be written in XML
+anna:$5$seventeenbyteslong$ih1prkhg9Lg0AGuY3ILPnD.W7vwH5Hc6Fu72rE8aTE2 -> line 1 isn't name:$5$.. as `vuldarg user NAME` writes it, or its name can't be written in XML
+anna:$6$rounds=1000$aa$ih1prkhg9Lg0AGuY3ILPnD.W7vwH5Hc6Fu72rE8aTE2 -> line 1 isn't name:$5$.. as `vuldarg user NAME` writes it, or its name can't be written in XML
+an:na:$5$rounds=1000$aa$ih1prkhg9Lg0AGuY3ILPnD.W7vwH5Hc6Fu72rE8aTE2 -> line 1 isn't name:$5$.. as `vuldarg user NAME` writes it, or its name can't be written in XML
 an na:$5$rounds=1000$aa$ih1prkhg9Lg0AGuY3ILPnD.W7vwH5Hc6Fu72rE8aTE2 -> read
 żółć:$5$rounds=1000$aa$ih1prkhg9Lg0AGuY3ILPnD.W7vwH5Hc6Fu72rE8aTE2 -> read
 anna:$5$sixteenbytesLong$ih1prkhg9Lg0AGuY3ILPnD.W7vwH5Hc6Fu72rE8aTE2 -> read
