@@ -12,6 +12,17 @@ import tempfile
 import time
 
 TOP = os.path.dirname(os.path.dirname(os.path.dirname(os.path.realpath(__file__))))
+# What a refusal says in words where it has no other body (docs/SERVE.md, "Refusals in words").
+REFUSALS = {
+    401: b"Who are you? Log in with a name and a password.\n",
+    403: b"This isn't allowed here, or not to you.\n",
+    413: b"This is larger than this server takes.\n",
+    421: b"This server hasn't that name, or not that folder.\n",
+    423: b"A lock is in the way, and its token wasn't handed in.\n",
+    429: b"Too many wrong logins: wait and try again.\n",
+    503: b"This can't be taken now: try again soon.\n",
+    507: b"There is no room for this.\n",
+}
 
 
 def free_port():

@@ -5,12 +5,13 @@ usage: no program; `kept(head)`, `refusal(request, server)` and `shown(request, 
 Nothing here is taken from the program: it is written from docs/SERVE.md ("Parts, dates, types, and what isn't there"), RFC 9110 (sections 8.3,
 13 and 14), RFC 4918 (9.1, 10.4 and 14), RFC 4331, RFC 7240 and RFC 8144 (2.1). Each rule stands in plain words where it is applied.
 """
+import contextlib
 import datetime
 import re
 import sys
 import urllib.parse
 
-from serving import TOP
+from serving import REFUSALS, TOP
 
 sys.path.append(f"{TOP}/tools")
 import loading  # noqa: E402, F401
@@ -162,6 +163,48 @@ def near_year(digits, moment):
     return year - 100 if year > now + 50 else year
 
 
+# Refusals
+
+
+def in_words(method, status, fields, body):
+    """Status, fields and body of a response, with the words of its status where it has no body of its own; those to HEAD stay."""
+    if body or status not in REFUSALS or method == b"HEAD":
+        return [status, fields, body]
+    text = REFUSALS[status]
+    return [status, {**fields, "content-type": "text/plain; charset=utf-8", "content-length": str(len(text))}, text.hex()]
+
+
+def conflicting(request, head, path, server):
+    """The first lock that keeps a request out: where it changes something, by the tokens that its If submits (RFC 4918, 7.4, 7.5 and 9.10.3)."""
+    method, tokens = head.method, [] if head.method == b"LOCK" else oracle.if_tokens(oracle.if_of(head))
+    places = [] if method == b"COPY" else [(path, method in (b"DELETE", b"MOVE", b"LOCK")), (path.parent(), False)]
+    if method in (b"COPY", b"MOVE"):
+        with contextlib.suppress(oracle.Refusal):
+            target = oracle.cut_prefix(oracle.path_of(oracle.destination_of(head) or b""), path.prefix)
+            places += [(target, True), (target.parent(), False)]
+
+    def held(lock):
+        return lock.token in tokens and lock.principal == request.principal
+
+    for place, deep in places:
+        covering = server.locks.covering(place.names)
+        for lock in server.locks.list:
+            covers = lock in covering and (not lock.shared or not any(held(other) for other in covering))
+            if not held(lock) and (covers or (deep and lock.at_or_below(place.names))):
+                return lock
+    return None
+
+
+def locked(request, server):
+    """The error of a request that is answered 423: which lock keeps it out (RFC 4918, 11.3 and 16); None where none is found."""
+    head = read(request.head)
+    lock = conflicting(request, head, oracle.target_path(head, server.prefix), server)
+    if lock is None:
+        return None
+    name = "no-conflicting-lock" if head.method == b"LOCK" else "lock-token-submitted"
+    return oracle.made("error", oracle.made(name, oracle.made("href", lock.path.url())), attributes=oracle.DECLARES_DAV)
+
+
 # Files
 
 
@@ -172,6 +215,9 @@ def shown(request, reply, moment, server):
         return reply
     if head.method in (b"GET", b"HEAD") and reply.status == 200 and "last-modified" in reply.headers:
         return shown_file(head, reply, moment)
+    if reply.status == 423 and not reply.body:
+        error = locked(request, server)
+        return oracle.Reply(423, {**reply.headers, "content-type": oracle.XML}, error) if error else reply
     if head.method == b"PROPFIND" and reply.status == 501:
         return oracle.Reply(403, reply.headers, reply.body)
     if head.method == b"PROPFIND" and reply.status == 207:

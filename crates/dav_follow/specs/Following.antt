@@ -8,6 +8,7 @@ use Rattle.dav_wire.specs.declared.answer.Asked.{Asked}
 use Rattle.dav_wire.specs.declared.answer.Rejection.{Rejection}
 use Rattle.dav_wire.specs.declared.answer.Rejection.TheVariants.{Unavailable}
 use Rattle.dav_turns.specs.Turns.{Keeping, keeping}
+use Rattle.dav_wire.specs.Explained.{explanation, text_fields}
 use Rattle.dav_follow.specs.declared.following.Clock.{Clock}
 use Rattle.dav_follow.specs.declared.following.Following.{Following}
 
@@ -58,9 +59,9 @@ pub record JudgesBehind {K : Type 0} (judges : K → List ℕ → Option Rejecti
   pub is : verdict ≡ verdict_behind (begins_to_read line) own
   pub clock : clock_of new ≡ clock_of old
 
--- when to come again: in a second (RFC 9110, section 10.2.3)
+-- when to come again: in a second (RFC 9110, section 10.2.3); and that words follow
 abbrev pub elsewhere_fields : List (List ℕ × List ℕ)
-elsewhere_fields = (codes "retry-after", codes "1") ∷ []
+elsewhere_fields = (codes "retry-after", codes "1") ∷ text_fields (explanation 503)
 
 -- a response that says besides for how many seconds it may have missed what the other one kept
 pub record SaysBehind (seconds : ℕ) (own sent : Response) : Type 0 where
@@ -75,7 +76,7 @@ pub data AnswersBehind {K : Type 0} (answers : K → Asked → Response → K �
       → answers old.keeper asked own new.keeper → SaysBehind (seconds_behind (clock_of old)) own sent → clock_of new ≡ clock_of old
       → AnswersBehind answers old asked sent new
   elsewhere : (line : List ℕ) → IsTrimAsciiStart asked.head line → begins_to_read line ≡ false
-      → IsResponse 503 elsewhere_fields [] sent → new ≡ old → AnswersBehind answers old asked sent new
+      → IsResponse 503 elsewhere_fields (explanation 503) sent → new ≡ old → AnswersBehind answers old asked sent new
 
 -- ---- what it hears and keeps
 

@@ -3,12 +3,14 @@ ghost use Rattle.std.specs.Prelude.{◌≡◌, ◌∷◌, ◌++◌, [], List, �
 ghost use Rattle.std.specs.Str.{IsTrimAsciiStart};
 ghost use Rattle.http_server.specs.Response.{IsBlank, IsResponse, fields_of};
 ghost use Rattle.dav_follow.specs.Following.{begins_to_read, elsewhere_fields, verdict_behind};
+ghost use Rattle.dav_wire.specs.Explained.{explanation};
 
 use crate::replays::Replays;
+use bytes::Bytes;
 use dav_turns::Keeper;
-use dav_wire::{Answerer, Asked, Rejection, Stop};
+use dav_wire::{Answerer, Asked, Rejection, Stop, explanation};
 use http::StatusCode;
-use http_header::{HeaderName, HeaderValue, RETRY_AFTER};
+use http_header::{CONTENT_TYPE, HeaderName, HeaderValue, RETRY_AFTER};
 use http_server::Response;
 use std::alloc::Global;
 
@@ -131,14 +133,23 @@ fn verdict_behind(reads: bool, own: Option<Rejection>) -> Option<Rejection>
     }
 }
 
+// Whether a request of which the keeper says this is told to come again, for it doesn't only read.
+fn is_sent_elsewhere(reads: bool, own: Option<Rejection>) -> bool {
+    !reads && own.is_none()
+}
+
 // Fills the response to a request that may be sent again in a second (RFC 9110, sections 10.2.3 and
 // 15.6.4).
 fn fill_elsewhere(response: &mut Response) -> Result<(), Stop>
     requires { IsBlank response.old }
-    ensures { OnOk result (IsResponse 503 elsewhere_fields [] response.new) }
+    ensures { OnOk result
+        (IsResponse 503 elsewhere_fields (explanation 503) response.new) }
 {
     response.status = StatusCode::SERVICE_UNAVAILABLE;
-    Ok(response.add_header(RETRY_AFTER, HeaderValue::from_static("1"))?)
+    response.body.push(Bytes::from_static(explanation(503)))?;
+    response.add_header(RETRY_AFTER, HeaderValue::from_static("1"))?;
+    let text = HeaderValue::from_static("text/plain; charset=utf-8");
+    Ok(response.add_header(CONTENT_TYPE, text)?)
 }
 
 impl<K: Replays> Answerer for Following<K> {
@@ -150,8 +161,15 @@ impl<K: Replays> Answerer for Following<K> {
 
     fn judge(&mut self, head: &[u8]) -> Result<Option<Rejection>, Stop> {
         let reads = only_reads(head);
-        let verdict = self.keeper.judge(head)?;
-        Ok(verdict_behind(reads, verdict))
+        let own = self.keeper.judge(head)?;
+        if is_sent_elsewhere(reads, own) {
+            self.keeper.hear_refused(head, 503);
+        }
+        Ok(verdict_behind(reads, own))
+    }
+
+    fn hear_refused(&mut self, head: &[u8], status: u16) {
+        self.keeper.hear_refused(head, status);
     }
 
     fn answer(&mut self, asked: &Asked, response: &mut Response) -> Result<(), Stop> {

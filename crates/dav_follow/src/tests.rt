@@ -67,6 +67,8 @@ impl Answerer for Scripted {
         }
     }
 
+    fn hear_refused(&mut self, _head: &[u8], _status: u16) {}
+
     fn answer(&mut self, _asked: &Asked, _response: &mut Response) -> Result<(), Stop> {
         Ok(())
     }

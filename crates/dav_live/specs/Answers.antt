@@ -27,6 +27,7 @@ use Rattle.dav_core.specs.Path.{Path}
 use Rattle.dav_seen.specs.Ways.{IsWayReply}
 use Rattle.dav_store.specs.LockEnds.{first_ended}
 use Rattle.dav_live.specs.Hosts.{value_of}
+use Rattle.dav_live.specs.Locked.{IsTold}
 
 -- who makes a request, when, and the token for a lock that it creates
 abbrev pub caller_of : RequestView → Caller
@@ -41,11 +42,12 @@ abbrev pub AsksToSee : List ℕ → Type 0
 AsksToSee head = HasMethod (codes "GET") head ⊎ HasMethod (codes "HEAD") head
 
 -- What is sent to a request of a reply to it, which leaves this server: what its client is shown, where so many bytes can still be stored, as
--- the front told last and as limits leave, at a path and below it or everywhere; as it is where the bytes of its head are none.
+-- the front told last and as limits leave, at a path and below it or everywhere; as it is where the bytes of its head are none. What says that
+-- a lock keeps the request out tells which (`IsTold`).
 pub data IsSentFor (s : Server) (q : RequestView) (r : Reply) (sent : Response) : Type 0 where
   headless : ((h : Request) → ¬ IsHead q.head h) → IsSentAs false r sent → IsSentFor s q r sent
-  presented : (h : Request) → IsHead q.head h → (place : Option Path) (available : ℕ) → IsShown h q.body q.moment (room_of s place available) r sent
-      → IsSentFor s q r sent
+  presented : (h : Request) (told : Reply) → IsHead q.head h → IsTold s.state.locks s.settings.prefix q.head q.principal r told
+      → (place : Option Path) (available : ℕ) → IsShown h q.body q.moment (room_of s place available) told sent → IsSentFor s q r sent
 
 -- What is sent to a PROPFIND of a reply, of which a listing took the multistatus in parts, if it did: what is shown of the whole reply; or
 -- the reply, which is whole (RFC 4918, sections 9.1 and 13).

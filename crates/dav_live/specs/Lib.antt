@@ -8,7 +8,9 @@ pub mod Admission
 pub mod Waiting
 pub mod Verdicts
 pub mod Runs
+pub mod Words
 pub mod Serving
+pub mod Locked
 pub mod Answers
 pub mod Tokens
 pub mod Life

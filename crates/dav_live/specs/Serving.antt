@@ -24,6 +24,7 @@ use Rattle.dav_live.specs.Verdicts.{IsVerdict}
 use Rattle.dav_live.specs.declared.admission.Reason.{Reason}
 use Rattle.dav_live.specs.declared.lists.ListsError.{ListsError}
 use Rattle.dav_live.specs.Waiting.{HasToWait, IsAfterLogin, IsAfterVerdict, MayBeHeard, wait_fields}
+use Rattle.dav_live.specs.Words.{IsExplained}
 use Rattle.dav_live.specs.declared.service.Service.{Service}
 
 -- what a service goes by
@@ -115,13 +116,15 @@ pub record IsDated (moment : ℕ) (own sent : Response) : Type 0 where
   pub status : sent.status ≡ own.status
   pub body : sent.body ≡ own.body
 
--- A service answers a request: what it goes by stays as it was, and the run of its records goes on.
+-- A service answers a request, and says in words what it refuses: what it goes by stays as it was, and the run of its records goes on.
 pub record Serves {H J : Type 0} (answers : H → RequestView → Response → H → Type 0) (refuses : Option Rules → List Limit → H → Request → RequestView → ℕ → Type 0)
     (looks : Rules → H → RequestView → Response → Type 0) (is_clean : J → Type 0)
     (kept : J → List (List ℕ) → Type 0) (old : Service H J) (asked : Asked) (sent : Response) (new : Service H J) : Type 0 where
   pub own : Response
   pub replies : IsReplyTo answers refuses looks (admission_of old) (logins_of old) (held_of old) asked own (held_of new) (logins_of new)
-  pub dated : IsDated (admission_of old).moment own sent
+  pub said : Response
+  pub explained : IsExplained own said
+  pub dated : IsDated (admission_of old).moment said sent
   pub same : admission_of new ≡ admission_of old
   pub goes_on : GoesOn answers is_clean kept (kept_of old) (kept_of new)
 

@@ -16,6 +16,7 @@ mod limits;
 mod line;
 mod lists;
 mod live;
+mod locked;
 mod machine;
 mod page;
 mod rejection;
@@ -27,6 +28,7 @@ mod swollen;
 mod tests;
 mod token;
 mod told;
+mod words;
 
 pub use dav_access::{AccessError, Limit, Measure, UsersError};
 pub use dav_shards::first_folder;

@@ -11,8 +11,10 @@ ghost use Rattle.dav_live.specs.SavedRuns.{loads_what_was_saved};
 ghost use Rattle.dav_seen.specs.Ways.{IsWayReply};
 ghost use Rattle.dav_server.specs.Head.{IsHead};
 ghost use Rattle.dav_live.specs.Answers.{AsksToSee, IsAnswer, IsSentFor, barred_status, caller_of};
+ghost use Rattle.dav_live.specs.Locked.{IsTold};
 
 use crate::ends::Ends;
+use crate::locked::reply_told;
 use crate::page;
 use crate::room::{Room, needed_for, needed_for_copies};
 use bytes::Bytes;
@@ -490,6 +492,16 @@ impl Machine {
         })
     }
 
+    // A reply to a request, with the lock that keeps it out, where one does.
+    fn reply_told(&self, request: &Request<'_>, reply: Reply) -> Result<Reply, NoMemory>
+        ensures { IfOk result (IsTold self.now.state.locks self.now.settings.prefix
+            request.now.head request.now.principal reply) }
+    {
+        let (ls, prefix) = (self.handler.locks(), self.handler.prefix());
+        let (head, who) = (request.head, request.principal);
+        reply_told(self.alloc, ls, head, prefix, who, reply)
+    }
+
     // Fills the response to a request with what its client is shown of a reply.
     fn answer_with(
         &self,
@@ -506,6 +518,7 @@ impl Machine {
             return Ok(Effect::Left);
         };
         let effect = effect_of(&head, reply.status.as_u16());
+        let told = self.reply_told(request, reply)?;
         let store = self.store_for(request.head)?;
         let body = request.body.as_slice();
         present(
@@ -514,7 +527,7 @@ impl Machine {
             body,
             request.moment,
             store,
-            reply,
+            told,
             response,
         )?;
         Ok(effect)

@@ -160,6 +160,8 @@ impl Answerer for Noting {
         Ok(Some(Rejection::Forbidden))
     }
 
+    fn hear_refused(&mut self, _head: &[u8], _status: u16) {}
+
     fn answer(&mut self, asked: &Asked, response: &mut Response) -> Result<(), Stop> {
         let line = line_of(asked.head.as_slice());
         if line == b"GET /memory".as_slice() {

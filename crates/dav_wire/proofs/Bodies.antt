@@ -24,7 +24,7 @@ use Rattle.http_server.proofs.StreamLemmas.{AcceptsRequest-append, accepts_uniqu
 use Rattle.dav_wire.specs.Exchange.{most_of}
 use Rattle.dav_wire.specs.History.{HasWork}
 use Rattle.dav_wire.specs.Refusals.{IsStatedWithin}
-use Rattle.dav_wire.specs.Place.{Place, Begun, StandsAt, Standing}
+use Rattle.dav_wire.specs.Place.{Place, Begun, KnowsHead, StandsAt, Standing}
 use Rattle.dav_wire.proofs.Streams.{after_front}
 
 -- ---- the body
@@ -126,6 +126,9 @@ module _ {p : Place} {stream interim : List ℕ} (x : Begun p stream interim) wh
 
   pub begun_work : (ended : Bool) → HasWork p.config.limits ended stream
   begun_work ended = inl (record { head = x.head; framing = x.framing; after = x.after; accepts = x.accepts })
+
+  pub knows : KnowsHead p stream
+  knows = (x.head, x.framing, x.after, x.accepts, x.kind)
 
   pub begun_some : stream ≢ []
   begun_some none =

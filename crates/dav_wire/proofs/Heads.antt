@@ -61,8 +61,10 @@ module _ (p : Place) (h : History) (waits : Bool) (x : IsAtHead p h waits) where
 
   -- it doesn't take the request
   pub head_rejected : (why : Rejection) (js : List Judgement) → js ≡ h.judgements ++ (p.head, Some why) ∷ []
-      → IsServed p.config (closed_with (Rejected why) (closing_text (rejection_status why)) (record h { judgements = js }))
-  head_rejected why js is = rejects (base (Some why) js is) why x.calls (next (Some why) js is) x.read.silent
+      → IsServed p.config (closed_with (Rejected why) (closing_text p.is_head (rejection_status why)) (record h { judgements = js }))
+  head_rejected why js is =
+      rejects (base (Some why) js is) why _ x.calls (next (Some why) js is) x.read.silent
+      (begun.head, begun.framing, begun.after, begun.accepts, ap (λ b. closing_text b (rejection_status why)) begun.kind)
 
   -- the request may go on
   module _ (js : List Judgement) (is : js ≡ h.judgements ++ (p.head, None) ∷ []) where

@@ -61,7 +61,7 @@ module _ (p : Place) (h : History) (r : Response) (bodiless : Bool) (x : IsAnswe
       aborts x.base (inl (record { head = x.whole.message.head; framing = reads.framing; after = reads.after_head; accepts = reads.head })) (inr called) (inl x.judged)
 
   pub fails_with : (e : WriteError) → response_refusal p.server r.status (reason_of r.status) (size_of r) (fields_of r) ≡ Some e
-      → IsServed p.config (closed_with (Unsendable e) (closing_text 500) h)
+      → IsServed p.config (closed_with (Unsendable e) (closing_text true 500) h)
   fails_with e why = cannot_send x.base e (record {
     last = called;
     refused = ap (λ s. response_refusal s r.status (reason_of r.status) (size_of r) (fields_of r)) (sym x.whole.server) ∙ why;

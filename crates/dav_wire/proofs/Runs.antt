@@ -7,7 +7,7 @@ use Rattle.std.proofs.Math.Logic.{∥∥₁_prop, ∥∥₁_elim}
 use denote.Struct.Props.{props}
 use Rattle.http1.specs.declared.error.WriteError.{WriteError}
 use Rattle.http_server.specs.Exchange.{ExpectsContinue, IsInterim}
-use Rattle.http_server.proofs.StreamLemmas.{IsInterim-append}
+use Rattle.http_server.proofs.StreamLemmas.{AcceptsRequest-append, IsInterim-append}
 use Rattle.dav_wire.specs.declared.answer.Rejection.{Rejection}
 use Rattle.dav_wire.specs.declared.state.Config.{Config}
 use Rattle.dav_wire.specs.declared.line.Line.{Line}
@@ -18,8 +18,8 @@ use Rattle.dav_wire.specs.declared.state.State.{State}
 use Rattle.dav_wire.specs.declared.state.State.TheVariants.{Open, Closing, Aborted}
 use Rattle.dav_wire.specs.Exchange.{Call, Judgement, Serves, passed}
 use Rattle.dav_wire.specs.History.{History, written, BeginsRequest, BeginsWithHead, AreJudged, IsNextJudged, MayGoOn, HasWork, IsCalledFor, MayBeCalledFor, IsUnsendable, Stands, IsServed, Rests, new_history, after_sent}
-use Rattle.dav_wire.specs.Place.{Place, place, history_of, Base, IsRunning, StandsAt, judged_at, HoldsAt, Holds, Standing, IsStarved, aborted, closed_with, Reaches}
-use Rattle.dav_wire.specs.Refusals.{IsRefusedFor, IsStatedWithin, closing_text, refusal_status, rejection_status}
+use Rattle.dav_wire.specs.Place.{Place, place, history_of, Base, IsKnownFor, IsRunning, StandsAt, judged_at, HoldsAt, Holds, Standing, IsStarved, aborted, closed_with, Reaches}
+use Rattle.dav_wire.specs.Refusals.{ClosesRequest, IsRefusalText, IsRefusedFor, IsStatedWithin, closing_text, is_bare, refusal_status, rejection_status}
 use Rattle.dav_wire.proofs.Bodies.{Standing-append, begun_some}
 use Rattle.dav_wire.proofs.Streams.{begins_grows, call_grows, exchange_grows, serves_grows, next_grows, error_grows, work_grows, aligned}
 
@@ -157,6 +157,15 @@ rebased {h} b same ended unread calls judgements stated body = record {
 
 -- ---- ends
 
+-- what is written where a request is refused
+pub says_why : (p : Place) (stream : List ℕ) (why : Refusal) → IsKnownFor why p stream
+    → IsRefusalText p.config.limits stream why (closing_text (is_bare why p.is_head) (refusal_status why))
+says_why p stream Truncated known = refl
+says_why p stream (Unreadable e) known = refl
+says_why p stream BodyTooLong known = (known.0, known.1, known.2, known.3, ap (λ b. closing_text b 413) known.4)
+says_why p stream UnknownCoding known = refl
+says_why p stream (NoRoom room) known = (known.0, known.1, known.2, known.3, ap (λ b. closing_text b 503) known.4)
+
 module _ {config : Config} {h : History} (b : Base config h) where
   appended : (text : List ℕ) → h.sent ++ (h.pending ++ text) ≡ (b.text ++ b.interim) ++ text
   appended text = sym (append_assoc h.sent h.pending text) ∙ ap (λ (t : List ℕ). t ++ text) b.written_is
@@ -167,25 +176,27 @@ module _ {config : Config} {h : History} (b : Base config h) where
       served_as b (aborted h) refl
       (record { had_work = work; calls = calls; dropped = refl; lost = h.pending; sent = b.written_is; judged = judged })
 
-  pub refuses : (why : Refusal) → h.calls ≡ b.answered → IsRefusedFor why config h.ended b.rest → MayGoOn config.limits h b.rest
-      → IsServed config (closed_with (Refused why) (closing_text (refusal_status why)) h)
-  refuses why calls is judged =
-      let text = closing_text (refusal_status why) in
-      served_as b (closed_with (Refused why) text h) refl (calls, is, appended text, judged)
+  pub refuses : (why : Refusal) (text : List ℕ) → h.calls ≡ b.answered → IsRefusedFor why config h.ended b.rest
+      → IsRefusalText config.limits b.rest why text → MayGoOn config.limits h b.rest
+      → IsServed config (closed_with (Refused why) text h)
+  refuses why text calls is says judged =
+      served_as b (closed_with (Refused why) text h) refl (calls, is, (text, says, appended text), judged)
 
   pub cannot_send : (e : WriteError) → IsUnsendable config e h.calls b.answered b.rest → AreJudged h
-      → IsServed config (closed_with (Unsendable e) (closing_text 500) h)
-  cannot_send e is judged = served_as b (closed_with (Unsendable e) (closing_text 500) h) refl (is, appended (closing_text 500), judged)
+      → IsServed config (closed_with (Unsendable e) (closing_text true 500) h)
+  cannot_send e is judged =
+      served_as b (closed_with (Unsendable e) (closing_text true 500) h) refl (is, appended (closing_text true 500), judged)
 
   -- the answerer doesn't take the request, before anything was written for it
-  pub rejects : (why : Rejection) → h.calls ≡ b.answered → IsNextJudged config.limits h (Some why) b.rest → b.interim ≡ []
-      → IsServed config (closed_with (Rejected why) (closing_text (rejection_status why)) h)
-  rejects why calls judged silent =
-      let text = closing_text (rejection_status why) in
+  pub rejects : (why : Rejection) (text : List ℕ) → h.calls ≡ b.answered → IsNextJudged config.limits h (Some why) b.rest → b.interim ≡ []
+      → ClosesRequest config.limits b.rest (rejection_status why) text → IsServed config (closed_with (Rejected why) text h)
+  rejects why text calls judged silent closes =
       served_as b (closed_with (Rejected why) text h) refl (record {
         calls_are = calls;
         judged = judged;
         silent = silent;
+        last = text;
+        closes = closes;
         written_is =
             appended text ∙ ap (λ (t : List ℕ). (b.text ++ t) ++ text) silent ∙ ap (λ (t : List ℕ). t ++ text) (append-nil b.text);
       })
@@ -233,6 +244,18 @@ module _ (config : Config) (h : History) (came : List ℕ) (over : Bool) (going 
   refusal_grows stream UnknownCoding is = next_grows came stream is
   refusal_grows stream (NoRoom room) is = next_grows came stream is
 
+  closes_grows : {stream text : List ℕ} (status : ℕ) → ClosesRequest config.limits stream status text
+      → ClosesRequest config.limits (stream ++ came) status text
+  closes_grows status x = (x.0, x.1, x.2 ++ came, AcceptsRequest-append x.3 came, x.4)
+
+  says_grows : {stream text : List ℕ} (why : Refusal) → IsRefusalText config.limits stream why text
+      → IsRefusalText config.limits (stream ++ came) why text
+  says_grows Truncated x = x
+  says_grows (Unreadable e) x = x
+  says_grows BodyTooLong x = closes_grows 413 x
+  says_grows UnknownCoding x = x
+  says_grows (NoRoom room) x = closes_grows 503 x
+
   module _ (answered : List Call) (text interim rest : List ℕ) where
     stands_grows : (s : State) → Stands s config h answered text interim rest
         → Stands s config more answered text interim (rest ++ came)
@@ -247,11 +270,14 @@ module _ (config : Config) (h : History) (came : List ℕ) (over : Bool) (going 
       judged = says.judged;
     }
     stands_grows (Closing EndOfInput) says = let ended = says.ended in absurd (cc)
-    stands_grows (Closing (Refused why)) says = (says.0, refusal_grows rest why says.1, says.2, may_grows says.3)
+    stands_grows (Closing (Refused why)) says =
+        (says.0, refusal_grows rest why says.1, (says.2.0, says_grows why says.2.1, says.2.2), may_grows says.3)
     stands_grows (Closing (Rejected why)) says = record {
       calls_are = says.calls_are;
       judged = next_judged_grows (Some why) says.judged;
       silent = says.silent;
+      last = says.last;
+      closes = closes_grows (rejection_status why) says.closes;
       written_is = says.written_is;
     }
     stands_grows (Closing (Unsendable e)) says = (record { last = called_grows says.0.last; refused = says.0.refused }, says.1, says.2)
@@ -326,11 +352,13 @@ module _ (h : History) (count : ℕ) where
       written_is = written_still ∙ says.written_is;
       judged = says.judged;
     }
-    stands_still (Closing (Refused why)) says = (says.0, says.1, written_still ∙ says.2, says.3)
+    stands_still (Closing (Refused why)) says = (says.0, says.1, (says.2.0, says.2.1, written_still ∙ says.2.2), says.3)
     stands_still (Closing (Rejected why)) says = record {
       calls_are = says.calls_are;
       judged = says.judged;
       silent = says.silent;
+      last = says.last;
+      closes = says.closes;
       written_is = written_still ∙ says.written_is;
     }
     stands_still (Closing (Unsendable e)) says = (says.0, written_still ∙ says.1, says.2)

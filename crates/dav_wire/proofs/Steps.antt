@@ -11,8 +11,8 @@ use Rattle.dav_wire.specs.declared.state.State.TheVariants.{Closing}
 use Rattle.dav_wire.specs.Exchange.{Judgement, passed}
 use Rattle.dav_wire.specs.History.{MayGoOn, HasWork}
 use Rattle.dav_wire.specs.Place.{place, work, history_of, Base, IsRunning, Standing, Finds, IsAtHead, IsGiven, KeepsIntake, Reaches, judged_at, aborted, closed_with}
-use Rattle.dav_wire.specs.Refusals.{IsRefusedFor, closing_text, refusal_status}
-use Rattle.dav_wire.proofs.Runs.{rebased, holds_open, reaches_over, aborts, refuses, ends, rests, may_go_on, none_judged}
+use Rattle.dav_wire.specs.Refusals.{IsRefusedFor, closing_text, is_bare, refusal_status}
+use Rattle.dav_wire.proofs.Runs.{rebased, holds_open, reaches_over, aborts, refuses, says_why, ends, rests, may_go_on, none_judged}
 
 module _ (l : Line) (i : Intake) (keeps : KeepsIntake l.intake i) (r : IsRunning (place l.intake) (history_of l)) where
   abbrev pub after : Line
@@ -76,14 +76,15 @@ module _ (l : Line) (i : Intake) (keeps : KeepsIntake l.intake i) (r : IsRunning
   is_given old x = record { base = base; calls = r.calls; judged = judged_then _ x.1; whole = x.0 }
 
   pub after_refusal : (new : Line) (old : ℕ) (goes : Bool) (why : Refusal)
-      → (history_of new ≡ closed_with (Refused why) (closing_text (refusal_status why)) (history_of after))
+      → (history_of new ≡ closed_with (Refused why) (closing_text (is_bare why i.is_head) (refusal_status why)) (history_of after))
       ⊎ (history_of new ≡ aborted (history_of after)) → new.intake ≡ i → IsFalse goes
       → Finds (found.Refused why) l.intake.ended (judged_at (place l.intake)) old (place i) base.rest base.interim → Reaches old goes new
   after_refusal new old goes why is same stops x =
       let config = ap (λ (t : Intake). t.config) same in
       let reason = subst (λ b. IsRefusedFor why i.config b base.rest) (sym keeps.ended) x.0 in
       elim is [
-        | inl written ↦ reaches_over new old goes i.config _ written config (λ still. cc) stops (refuses base why r.calls reason may)
+        | inl written ↦ reaches_over new old goes i.config _ written config (λ still. cc) stops
+            (refuses base why _ r.calls reason (says_why (place i) base.rest why x.2) may)
         | inr none ↦ after_stop new old goes none config stops
             (subst (λ b. HasWork i.config.limits b base.rest) (sym keeps.ended) x.1)
       ]

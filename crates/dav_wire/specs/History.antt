@@ -1,5 +1,5 @@
 -- What came and went over a connection, and what always holds of that.
-use Rattle.std.specs.Prelude.{◌≡◌, ℕ, ◌≤◌, ◌⊎◌, Bool, false, List, [], ◌∷◌, ◌++◌, length, max, take, drop, Some, IsTrue, IsFalse, Option, None, if◌then◌else◌, ◌==◌}
+use Rattle.std.specs.Prelude.{◌≡◌, ℕ, ◌≤◌, ◌⊎◌, Bool, true, false, List, [], ◌∷◌, ◌++◌, length, max, take, drop, Some, IsTrue, IsFalse, Option, None, if◌then◌else◌, ◌==◌}
 use Rattle.httparse.specs.Grammar.{RequestHead}
 use Rattle.http1.specs.declared.conn.Limits.{Limits}
 use Rattle.http1.specs.declared.error.WriteError.{WriteError}
@@ -18,7 +18,7 @@ use Rattle.dav_wire.specs.declared.state.State.{State}
 use Rattle.dav_wire.specs.declared.state.State.TheVariants.{Open, Closing, Aborted}
 use Rattle.dav_wire.specs.declared.state.Reason.TheVariants.{Asked, EndOfInput, Refused, Rejected, Unsendable}
 use Rattle.dav_wire.specs.Exchange.{Call, Judgement, Judging, Answering, Act, Chain, ReadsCall, Exchanges, Serves, calls_in, judgements_in, passed}
-use Rattle.dav_wire.specs.Refusals.{IsRefusedFor, IsStatedWithin, closing_text, refusal_status, rejection_status}
+use Rattle.dav_wire.specs.Refusals.{ClosesRequest, IsRefusalText, IsRefusedFor, IsStatedWithin, closing_text, rejection_status}
 
 pub record History : Type 0 where
   pub state : State
@@ -134,7 +134,9 @@ pub record IsRejected (why : Rejection) (config : Config) (h : History) (answere
   pub calls_are : h.calls ≡ answered
   pub judged : IsNextJudged config.limits h (Some why) rest
   pub silent : interim ≡ []
-  pub written_is : written h ≡ text ++ closing_text (rejection_status why)
+  pub last : List ℕ
+  pub closes : ClosesRequest config.limits rest (rejection_status why) last
+  pub written_is : written h ≡ text ++ last
 
 -- What each state says, after the calls that were answered by the text and the interim response to the request that begins
 -- the rest of the stream.
@@ -144,12 +146,13 @@ Stands Open config h answered text interim rest =
 Stands (Closing Asked) config h answered text interim rest = IsLast config h answered text rest
 Stands (Closing EndOfInput) config h answered text interim rest = IsAtEnd h answered text rest
 Stands (Closing (Refused why)) config h answered text interim rest =
-    (h.calls ≡ answered) × IsRefusedFor why config h.ended rest × (written h ≡ (text ++ interim) ++ closing_text (refusal_status why))
+    (h.calls ≡ answered) × IsRefusedFor why config h.ended rest
+    × ((last : List ℕ) × IsRefusalText config.limits rest why last × (written h ≡ (text ++ interim) ++ last))
     × MayGoOn config.limits h rest
 Stands (Closing (Rejected why)) config h answered text interim rest =
     IsRejected why config h answered text interim rest
 Stands (Closing (Unsendable e)) config h answered text interim rest =
-    IsUnsendable config e h.calls answered rest × (written h ≡ (text ++ interim) ++ closing_text 500)
+    IsUnsendable config e h.calls answered rest × (written h ≡ (text ++ interim) ++ closing_text true 500)
     × AreJudged h
 Stands Aborted config h answered text interim rest = IsAborted config h answered (text ++ interim) rest
 

@@ -4,6 +4,7 @@ use Rattle.httparse.specs.Grammar.{RequestHead, ReadsRequest, print_response, st
 use Rattle.http1.specs.declared.conn.Limits.{Limits}
 use Rattle.http1.specs.declared.framing.MethodKind.{MethodKind}
 use Rattle.http1.specs.Message as Wire
+use Rattle.http1.specs.Server.{is_head}
 use Rattle.http1.specs.Message.{known_of, ReadsResponseMessage}
 use Rattle.http_server.specs.declared.state.TheConstants.{MAX_HEADERS}
 use Rattle.dav_wire.specs.declared.state.Config.{Config}
@@ -13,7 +14,7 @@ use Rattle.dav_wire.specs.declared.state.Refusal.{Refusal}
 use Rattle.dav_wire.specs.declared.state.State.TheVariants.{Open}
 use Rattle.dav_wire.specs.Exchange.{Call, ReadsCall}
 use Rattle.dav_wire.specs.History.{History, IsServed, Rests}
-use Rattle.dav_wire.specs.Refusals.{closing_text, refusal_status, rejection_status}
+use Rattle.dav_wire.specs.Refusals.{closing_body, closing_text, refusal_status, rejection_status}
 
 -- these bytes, by themselves, are this head and no other, within the limits of length and of fields
 pub record IsHeadAlone (config : Config) (bytes : List ℕ) (h : RequestHead) : Type 0 where
@@ -52,20 +53,25 @@ ConnectionsNeverStall =
     → (0 < length h.pending) ⊎ (((h.state ≡ Open) × IsFalse h.ended) ⊎ (h.state ≢ Open))
 
 -- A client that sent a request with this method, and has room for the head, reads the text, whole, as a response of this status
--- that has no body and says that the connection is closed.
-pub record IsLastResponse (method : MethodKind) (status : ℕ) (text : List ℕ) : Type 0 where
+-- that has this body and says that the connection is closed.
+pub record IsLastResponse (method : MethodKind) (status : ℕ) (body text : List ℕ) : Type 0 where
   pub message : Wire.Response
   pub reads : (limits : Limits) → length (print_response message.head) ≤ limits.max_head_len
       → ReadsResponseMessage limits method text message []
   pub status_is : status_code message.head ≡ status
   pub closes : IsTrue (known_of message.head.fields).close
-  pub body : message.body.bytes ≡ []
+  pub content : message.body.bytes ≡ body
 
--- Each refusal and rejection, and the 500 where a response can't be sent, is read by the client as
--- what it is.
+-- The response with this status that ends a connection is read by who sent a request with this method as what it is, with the
+-- words of its status, but for a HEAD.
+abbrev pub IsReadAsLast : MethodKind → ℕ → Type 0
+IsReadAsLast method status =
+    IsLastResponse method status (closing_body (is_head method) status) (closing_text (is_head method) status)
+
+-- So are each refusal and rejection, and the 500 where a response can't be sent.
 abbrev pub RefusalsAreRead : Type 0
 RefusalsAreRead =
     (method : MethodKind)
-    → ((why : Refusal) → IsLastResponse method (refusal_status why) (closing_text (refusal_status why)))
-    × ((why : Rejection) → IsLastResponse method (rejection_status why) (closing_text (rejection_status why)))
-    × IsLastResponse method 500 (closing_text 500)
+    → ((why : Refusal) → IsReadAsLast method (refusal_status why))
+    × ((why : Rejection) → IsReadAsLast method (rejection_status why))
+    × IsReadAsLast method 500

@@ -1,4 +1,5 @@
 pub mod Exchange
+pub mod Explained
 pub mod Refusals
 pub mod History
 pub mod Laws

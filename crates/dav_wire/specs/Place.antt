@@ -1,5 +1,6 @@
 -- Where the reader of a connection is in the stream between two steps, and what is true there.
 use Rattle.std.specs.Prelude.{◌≡◌, ◌≢◌, ℕ, ◌+◌, ◌*◌, ◌<◌, ◌≤◌, Bool, true, false, List, [], ◌∷◌, ◌++◌, length, map, take, drop, flat_map, None, if◌then◌else◌, IsTrue, IsFalse}
+use Rattle.std.specs.Bool.{⊤}
 use Rattle.httparse.specs.Grammar.{RequestHead}
 use Rattle.httparse.specs.Spans.{span_bytes}
 use Rattle.httparse.specs.declared.spans.HeaderSpan.{HeaderSpan}
@@ -33,7 +34,7 @@ use Rattle.dav_wire.specs.declared.line.Line.{Line}
 use Rattle.dav_wire.specs.declared.state.Reason.{Reason}
 use Rattle.dav_wire.specs.declared.state.Reason.TheVariants.{Refused}
 use Rattle.dav_wire.specs.declared.state.Refusal.{Refusal}
-use Rattle.dav_wire.specs.declared.state.Refusal.TheVariants.{NoRoom}
+use Rattle.dav_wire.specs.declared.state.Refusal.TheVariants.{Truncated, Unreadable, BodyTooLong, UnknownCoding, NoRoom}
 use Rattle.dav_wire.specs.declared.state.State.{State}
 use Rattle.dav_wire.specs.declared.state.State.TheVariants.{Open, Closing, Aborted}
 use Rattle.dav_wire.specs.Exchange.{Call, Judgement, ReadsCall, Serves, most_of, passed}
@@ -138,6 +139,20 @@ pub record IsWhole (p : Place) (stream : List ℕ) (asked : Asked) (bodiless : B
   pub body : p.body ≡ []
   pub stated : p.stated ≡ 0
 
+-- the head of the request that begins the stream was read, and it is known whether it is a HEAD
+abbrev pub KnowsHead : Place → List ℕ → Type 0
+KnowsHead p stream =
+    (h : RequestHead) × (framing : Framing) × (after : List ℕ)
+    × AcceptsRequest p.config.limits stream h framing after × (p.is_head ≡ is_head (method_kind h.method))
+
+-- so it is where that request is refused for its body
+abbrev pub IsKnownFor : Refusal → Place → List ℕ → Type 0
+IsKnownFor Truncated p stream = ⊤
+IsKnownFor (Unreadable e) p stream = ⊤
+IsKnownFor BodyTooLong p stream = KnowsHead p stream
+IsKnownFor UnknownCoding p stream = ⊤
+IsKnownFor (NoRoom room) p stream = KnowsHead p stream
+
 -- a step that goes on leaves less of this
 abbrev pub work : Place → ℕ
 work p = 2 * length p.unread + (if p.within then 1 else 0)
@@ -155,7 +170,7 @@ Finds found.Part ended judged before p stream interim =
 Finds (found.Request asked bodiless) ended judged before p stream interim =
     IsWhole p stream asked bodiless × (judged ≡ (asked.head, None) ∷ []) × (work p < before)
 Finds (found.Refused why) ended judged before p stream interim =
-    IsRefusedFor why p.config ended stream × HasWork p.config.limits ended stream
+    IsRefusedFor why p.config ended stream × HasWork p.config.limits ended stream × IsKnownFor why p stream
 
 -- a head was read at the start of the stream, and is still among the bytes
 pub record HasHead (p : Place) (spans : List HeaderSpan) (r : RequestSpans) (stream interim : List ℕ) : Type 0 where

@@ -102,6 +102,11 @@ pub trait Answerer {
     fn judge(&mut self, head: &[u8]) -> Result<Option<Rejection>, Stop>
         ensures { IfOk result (λ verdict. judges self.old head.now verdict self.new) };
 
+    /// Hears that the connection itself refuses a request with these bytes as its head, with this status, for its body. The answerer
+    /// stays as it is.
+    fn hear_refused(&mut self, head: &[u8], status: u16)
+        ensures { self.new ≡ self.old };
+
     /// Fills `response`, which comes as a 200 without fields and body. The connection adds `content-length` and
     /// `connection` where they are needed, and sends no body to HEAD (RFC 9110, sections 8.6 and 9.3.2).
     fn answer(&mut self, asked: &Asked, response: &mut Response) -> Result<(), Stop>

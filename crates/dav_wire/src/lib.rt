@@ -3,6 +3,7 @@
 #![tactic(auto)]
 
 mod answer;
+mod explained;
 mod intake;
 mod laws;
 mod line;
@@ -13,6 +14,7 @@ mod state;
 mod tests;
 
 pub use answer::{Answerer, Asked, Rejection, Stop};
+pub use explained::explanation;
 pub use laws::{calls_are_requests, connections_never_stall, heads_stand_alone, refusals_are_read};
 pub use peer::Peer;
 pub use state::{Config, Reason, Refusal, State};

@@ -1,11 +1,13 @@
 //! One connection, step by step.
 ghost use Rattle.std.specs.Prelude.{◌≡◌, ◌≢◌, ℕ, ◌<◌, ◌≤◌, ◌⊎◌, ◌↔◌, [], ◌++◌, length, MatchBool, IsTrue, IsFalse, OnOk, OnErr};
 ghost use Rattle.http_server.specs.declared.state.TheConstants.{MAX_HEADERS};
+ghost use Rattle.dav_wire.specs.Refusals.{closing_text, known_status};
 
 use crate::answer::{Answerer, Asked, Rejection, Stop};
+use crate::explained::explanation;
 use crate::intake::{Found, Intake};
 use crate::reply::{write_head, write_rest};
-use crate::state::{Config, Reason, Refusal, State, closing_text};
+use crate::state::{Config, Reason, Refusal, State, closing_head, known_status};
 use bytes::{Buf, BufMut, BytesMut};
 use http_server::{Log, Response, Rope};
 use http1::WriteError;
@@ -39,7 +41,7 @@ pub(crate) struct Line {
 impl Line {
     ghost use Rattle.dav_wire.specs.History.{Acts, new_history, after_taken, after_sent};
     ghost use Rattle.dav_wire.specs.Place.{place, work, history_of, Holds, KeepsLine, Reaches, IsAtHead, IsGiven, IsAnswered, FitsIn, KeepsBody, IsUnrefused, invited, aborted, closed_with};
-    ghost use Rattle.dav_wire.specs.Refusals.{known_status, closing_text, refusal_status};
+    ghost use Rattle.dav_wire.specs.Refusals.{known_status, closing_text, is_bare, refusal_status};
 
     pub(crate) fn new(alloc: Global, config: Config) -> Line
         ensures history { history_of result ≡ new_history }
@@ -128,7 +130,10 @@ impl Line {
             Ok(Found::Head(waits)) => self.judge(answerer, waits),
             Ok(Found::Part) => true,
             Ok(Found::Request(asked, is_head)) => self.answer(answerer, &asked, is_head),
-            Ok(Found::Refused(why)) => self.refuse(why),
+            Ok(Found::Refused(why)) => {
+                self.tell(answerer, why);
+                self.refuse(why)
+            }
             Err(_) => self.abort(Stop::Memory),
         }
     }
@@ -151,7 +156,7 @@ impl Line {
         };
         self.judgements = self.judgements.and(&self.intake.head, &verdict);
         match verdict {
-            Some(why) => self.end(Reason::Rejected(why), why.status()),
+            Some(why) => self.end(Reason::Rejected(why), why.status(), self.intake.is_head),
             None if waits => self.invite(),
             None => true,
         }
@@ -219,7 +224,7 @@ impl Line {
     // Ends where a response can't be sent.
     fn fail(&mut self, error: WriteError) -> bool
         ensures written { ((history_of self.new
-            ≡ closed_with (Reason.Unsendable error) (closing_text 500) (history_of self.old))
+            ≡ closed_with (Reason.Unsendable error) (closing_text true 500) (history_of self.old))
             × (error ≢ WriteError.OutOfMemory))
             ⊎ (history_of self.new ≡ aborted (history_of self.old)) }
         ensures stops { IsFalse result }
@@ -230,14 +235,24 @@ impl Line {
     {
         match error {
             WriteError::OutOfMemory => self.abort(Stop::Memory),
-            _ => self.end(Reason::Unsendable(error), 500),
+            _ => self.end(Reason::Unsendable(error), 500, true),
+        }
+    }
+
+    // Tells an answerer of a request that is refused for its body.
+    fn tell<S: Answerer>(&self, answerer: &mut S, why: Refusal)
+        ensures { answerer.new ≡ answerer.old }
+    {
+        if why.is_of_body() {
+            answerer.hear_refused(self.intake.head.as_slice(), why.status());
         }
     }
 
     // Refuses the next request.
     fn refuse(&mut self, why: Refusal) -> bool
         ensures written { (history_of self.new
-            ≡ closed_with (Reason.Refused why) (closing_text (refusal_status why))
+            ≡ closed_with (Reason.Refused why)
+            (closing_text (is_bare why self.old.intake.is_head) (refusal_status why))
             (history_of self.old))
             ⊎ (history_of self.new ≡ aborted (history_of self.old)) }
         ensures stops { IsFalse result }
@@ -246,13 +261,17 @@ impl Line {
         ensures acts { (self.new.calls ≡ self.old.calls)
             × (self.new.judgements ≡ self.old.judgements) }
     {
-        self.end(Reason::Refused(why), why.status())
+        self.end(
+            Reason::Refused(why),
+            why.status(),
+            why.is_bare(self.intake.is_head),
+        )
     }
 
     // Ends with a text of the connection's own.
-    fn end(&mut self, why: Reason, status: u16) -> bool
+    fn end(&mut self, why: Reason, status: u16, bare: bool) -> bool
         ensures written { (history_of self.new
-            ≡ closed_with why (closing_text (known_status status)) (history_of self.old))
+            ≡ closed_with why (closing_text bare (known_status status)) (history_of self.old))
             ⊎ (history_of self.new ≡ aborted (history_of self.old)) }
         ensures stops { IsFalse result }
         ensures intake { self.new.intake ≡ self.old.intake }
@@ -260,7 +279,7 @@ impl Line {
         ensures acts { (self.new.calls ≡ self.old.calls)
             × (self.new.judgements ≡ self.old.judgements) }
     {
-        match self.output.put_slice(closing_text(status)) {
+        match put_closing(&mut self.output, status, bare) {
             Ok(()) => self.close(why),
             Err(_) => self.abort(Stop::Memory),
         }
@@ -289,4 +308,16 @@ impl Line {
         self.stop = why;
         false
     }
+}
+
+// Writes the last response of a connection, with the words of its status, or bare.
+fn put_closing(output: &mut Rope, status: u16, bare: bool) -> Result<(), AllocError>
+    ensures { OnOk result (output.new.items
+        ≡ output.old.items ++ closing_text bare (known_status status)) }
+{
+    output.put_slice(closing_head(status))?;
+    if bare {
+        return Ok(());
+    }
+    output.put_slice(explanation(known_status(status)))
 }

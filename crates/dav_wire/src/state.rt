@@ -1,7 +1,7 @@
 //! The limits of a connection, where it stands, and why it is closed.
 ghost use Rattle.std.specs.Prelude.{◌≡◌};
 ghost use Rattle.dav_wire.specs.Exchange.{takes_tree, most_of};
-ghost use Rattle.dav_wire.specs.Refusals.{known_status, closing_text, refusal_status};
+ghost use Rattle.dav_wire.specs.Refusals.{known_status, closing_head, is_bare, refusal_status};
 
 use crate::answer::Rejection;
 use http1::{Limits, ReadError, WriteError};
@@ -73,6 +73,21 @@ impl Refusal {
             Refusal::NoRoom(_) => 503,
         }
     }
+
+    // Whether the response is bare, to a request that is a HEAD or not: where its head isn't known it is.
+    pub(crate) fn is_bare(self, is_head: bool) -> bool
+        ensures { result ≡ is_bare self is_head }
+    {
+        match self {
+            Refusal::BodyTooLong | Refusal::NoRoom(_) => is_head,
+            _ => true,
+        }
+    }
+
+    /// Whether it is of a request whose head was read, for its body.
+    pub(crate) fn is_of_body(self) -> bool {
+        matches!(self, Refusal::BodyTooLong | Refusal::NoRoom(_))
+    }
 }
 
 // Whether a method's body is an element tree.
@@ -95,29 +110,41 @@ pub(crate) fn most_of(config: &Config, method: &[u8]) -> usize
     }
 }
 
-/// The last text of a connection that is closed with this status; 400 stands for one that isn't known.
-pub(crate) fn closing_text(status: u16) -> &'static [u8]
-    ensures { result.now ≡ closing_text (known_status status) }
+/// The status with which a connection answers itself; 400 stands for one that isn't known.
+pub(crate) fn known_status(status: u16) -> u16
+    ensures { result ≡ known_status status }
+{
+    match status {
+        401 | 403 | 413 | 414 | 415 | 421 | 429 | 431 | 500 | 501 | 503 => status,
+        _ => 400,
+    }
+}
+
+/// The head of the last response of a connection that is closed with this status; 400 stands for one that isn't known.
+pub(crate) fn closing_head(status: u16) -> &'static [u8]
+    ensures { result.now ≡ closing_head (known_status status) }
 {
     match status {
         401 =>
-            b"HTTP/1.1 401 Unauthorized\r\nwww-authenticate: Basic realm=\"vuldarg\", charset=\"UTF-8\"\r\nconnection: close\r\ncontent-length: 0\r\n\r\n",
-        403 => b"HTTP/1.1 403 Forbidden\r\nconnection: close\r\ncontent-length: 0\r\n\r\n",
-        413 => b"HTTP/1.1 413 Payload Too Large\r\nconnection: close\r\ncontent-length: 0\r\n\r\n",
+            b"HTTP/1.1 401 Unauthorized\r\nwww-authenticate: Basic realm=\"vuldarg\", charset=\"UTF-8\"\r\ncontent-type: text/plain; charset=utf-8\r\nconnection: close\r\ncontent-length: 48\r\n\r\n",
+        403 =>
+            b"HTTP/1.1 403 Forbidden\r\ncontent-type: text/plain; charset=utf-8\r\nconnection: close\r\ncontent-length: 40\r\n\r\n",
+        413 =>
+            b"HTTP/1.1 413 Payload Too Large\r\ncontent-type: text/plain; charset=utf-8\r\nconnection: close\r\ncontent-length: 39\r\n\r\n",
         414 => b"HTTP/1.1 414 URI Too Long\r\nconnection: close\r\ncontent-length: 0\r\n\r\n",
         415 =>
             b"HTTP/1.1 415 Unsupported Media Type\r\nconnection: close\r\ncontent-length: 0\r\n\r\n",
         421 =>
-            b"HTTP/1.1 421 Misdirected Request\r\nconnection: close\r\ncontent-length: 0\r\n\r\n",
+            b"HTTP/1.1 421 Misdirected Request\r\ncontent-type: text/plain; charset=utf-8\r\nconnection: close\r\ncontent-length: 50\r\n\r\n",
         429 =>
-            b"HTTP/1.1 429 Too Many Requests\r\nretry-after: 60\r\nconnection: close\r\ncontent-length: 0\r\n\r\n",
+            b"HTTP/1.1 429 Too Many Requests\r\nretry-after: 60\r\ncontent-type: text/plain; charset=utf-8\r\nconnection: close\r\ncontent-length: 43\r\n\r\n",
         431 =>
             b"HTTP/1.1 431 Request Header Fields Too Large\r\nconnection: close\r\ncontent-length: 0\r\n\r\n",
         500 =>
             b"HTTP/1.1 500 Internal Server Error\r\nconnection: close\r\ncontent-length: 0\r\n\r\n",
         501 => b"HTTP/1.1 501 Not Implemented\r\nconnection: close\r\ncontent-length: 0\r\n\r\n",
         503 =>
-            b"HTTP/1.1 503 Service Unavailable\r\nretry-after: 1\r\nconnection: close\r\ncontent-length: 0\r\n\r\n",
+            b"HTTP/1.1 503 Service Unavailable\r\nretry-after: 1\r\ncontent-type: text/plain; charset=utf-8\r\nconnection: close\r\ncontent-length: 41\r\n\r\n",
         _ => b"HTTP/1.1 400 Bad Request\r\nconnection: close\r\ncontent-length: 0\r\n\r\n",
     }
 }

@@ -1,6 +1,6 @@
 //! Connections as rows of text: what comes, and what is written, where the bytes come in pieces of each length.
 //!
-//! In a row `^` is CRLF. The answerer tells the request line and the body that it was given, under the status that the target
+//! In a row `^` is CRLF and `$` a line feed. The answerer tells the request line and the body that it was given, under the status that the target
 //! has. It doesn't take a request for `/no-403`, and so with the status of each reason. Heads have at most 128 bytes, bodies at most 16, trees 32.
 use crate::{Answerer, Asked, Config, Peer, Rejection, Stop};
 use http::StatusCode;
@@ -27,10 +27,10 @@ GET /a HTTP/1.1^Host: h^Connection: close^^GET /b HTTP/1.1^Host: h^^ -> HTTP/1.1
 GET /a HTTP/1.0^^GET /b HTTP/1.1^Host: h^^ -> HTTP/1.0 200 OK^content-length: 16^connection: close^^GET /a HTTP/1.0|
 
 # refusals (RFC 9110, section 15.5, and RFC 6585, section 5)
-PUT /a HTTP/1.1^Host: h^Content-Length: 17^^ -> HTTP/1.1 413 Payload Too Large^connection: close^content-length: 0^^
-PUT /a HTTP/1.1^Host: h^Transfer-Encoding: chunked^^11^01234567890123456^0^^ -> HTTP/1.1 413 Payload Too Large^connection: close^content-length: 0^^
+PUT /a HTTP/1.1^Host: h^Content-Length: 17^^ -> HTTP/1.1 413 Payload Too Large^content-type: text/plain; charset=utf-8^connection: close^content-length: 39^^This is larger than this server takes.$
+PUT /a HTTP/1.1^Host: h^Transfer-Encoding: chunked^^11^01234567890123456^0^^ -> HTTP/1.1 413 Payload Too Large^content-type: text/plain; charset=utf-8^connection: close^content-length: 39^^This is larger than this server takes.$
 LOCK /a HTTP/1.1^Host: h^Content-Length: 17^^01234567890123456 -> HTTP/1.1 200 OK^content-length: 34^^LOCK /a HTTP/1.1|01234567890123456
-LOCK /a HTTP/1.1^Host: h^Content-Length: 33^^ -> HTTP/1.1 413 Payload Too Large^connection: close^content-length: 0^^
+LOCK /a HTTP/1.1^Host: h^Content-Length: 33^^ -> HTTP/1.1 413 Payload Too Large^content-type: text/plain; charset=utf-8^connection: close^content-length: 39^^This is larger than this server takes.$
 PUT /a HTTP/1.1^Host: h^Transfer-Encoding: gzip, chunked^^0^^ -> HTTP/1.1 501 Not Implemented^connection: close^content-length: 0^^
 GET /a HTTP/1.1^^ -> HTTP/1.1 400 Bad Request^connection: close^content-length: 0^^
 PUT /a HTTP/1.1^Host: h^Content-Length: 2^Transfer-Encoding: chunked^^0^^ -> HTTP/1.1 400 Bad Request^connection: close^content-length: 0^^
@@ -39,27 +39,29 @@ GET /012345678901234567890123456789012345678901234567890123456789012345678901234
 GET /a HTTP/1.1^Host: h^A: 0123456789012345678901234567890123456789012345678901234567890123456789012345678901234567890123456789012345678901234567890123456789^ -> HTTP/1.1 431 Request Header Fields Too Large^connection: close^content-length: 0^^
 
 # rejections, of the head alone (RFC 9110, sections 10.1.1 and 15)
-PUT /no-403 HTTP/1.1^Host: h^Content-Length: 5^^hello -> HTTP/1.1 403 Forbidden^connection: close^content-length: 0^^
-PUT /no-403 HTTP/1.1^Host: h^Content-Length: 5^^ -> HTTP/1.1 403 Forbidden^connection: close^content-length: 0^^
-PUT /no-403 HTTP/1.1^Host: h^Expect: 100-continue^Content-Length: 5^^ -> HTTP/1.1 403 Forbidden^connection: close^content-length: 0^^
+PUT /no-403 HTTP/1.1^Host: h^Content-Length: 5^^hello -> HTTP/1.1 403 Forbidden^content-type: text/plain; charset=utf-8^connection: close^content-length: 40^^This isn't allowed here, or not to you.$
+PUT /no-403 HTTP/1.1^Host: h^Content-Length: 5^^ -> HTTP/1.1 403 Forbidden^content-type: text/plain; charset=utf-8^connection: close^content-length: 40^^This isn't allowed here, or not to you.$
+PUT /no-403 HTTP/1.1^Host: h^Expect: 100-continue^Content-Length: 5^^ -> HTTP/1.1 403 Forbidden^content-type: text/plain; charset=utf-8^connection: close^content-length: 40^^This isn't allowed here, or not to you.$
 PUT /no-415 HTTP/1.1^Host: h^Transfer-Encoding: chunked^^5^hello^0^^ -> HTTP/1.1 415 Unsupported Media Type^connection: close^content-length: 0^^
-PUT /no-401 HTTP/1.1^Host: h^Content-Length: 5^^ -> HTTP/1.1 401 Unauthorized^www-authenticate: Basic realm=\"vuldarg\", charset=\"UTF-8\"^connection: close^content-length: 0^^
-GET /no-421 HTTP/1.1^Host: h^^GET /a HTTP/1.1^Host: h^^ -> HTTP/1.1 421 Misdirected Request^connection: close^content-length: 0^^
-PUT /no-429 HTTP/1.1^Host: h^Expect: 100-continue^Content-Length: 5^^ -> HTTP/1.1 429 Too Many Requests^retry-after: 60^connection: close^content-length: 0^^
+PUT /no-401 HTTP/1.1^Host: h^Content-Length: 5^^ -> HTTP/1.1 401 Unauthorized^www-authenticate: Basic realm=\"vuldarg\", charset=\"UTF-8\"^content-type: text/plain; charset=utf-8^connection: close^content-length: 48^^Who are you? Log in with a name and a password.$
+GET /no-421 HTTP/1.1^Host: h^^GET /a HTTP/1.1^Host: h^^ -> HTTP/1.1 421 Misdirected Request^content-type: text/plain; charset=utf-8^connection: close^content-length: 50^^This server hasn't that name, or not that folder.$
+PUT /no-429 HTTP/1.1^Host: h^Expect: 100-continue^Content-Length: 5^^ -> HTTP/1.1 429 Too Many Requests^retry-after: 60^content-type: text/plain; charset=utf-8^connection: close^content-length: 43^^Too many wrong logins: wait and try again.$
 HEAD /no-501 HTTP/1.1^Host: h^^ -> HTTP/1.1 501 Not Implemented^connection: close^content-length: 0^^
-GET /a HTTP/1.1^Host: h^^PUT /no-503 HTTP/1.0^Content-Length: 5^^ -> HTTP/1.1 200 OK^content-length: 16^^GET /a HTTP/1.1|HTTP/1.1 503 Service Unavailable^retry-after: 1^connection: close^content-length: 0^^
-PUT /no-403 HTTP/1.1^Host: h^Content-Length: 17^^ -> HTTP/1.1 413 Payload Too Large^connection: close^content-length: 0^^
+GET /a HTTP/1.1^Host: h^^PUT /no-503 HTTP/1.0^Content-Length: 5^^ -> HTTP/1.1 200 OK^content-length: 16^^GET /a HTTP/1.1|HTTP/1.1 503 Service Unavailable^retry-after: 1^content-type: text/plain; charset=utf-8^connection: close^content-length: 41^^This can't be taken now: try again soon.$
+HEAD /no-403 HTTP/1.1^Host: h^^ -> HTTP/1.1 403 Forbidden^content-type: text/plain; charset=utf-8^connection: close^content-length: 40^^
+HEAD /a HTTP/1.1^Host: h^Content-Length: 17^^ -> HTTP/1.1 413 Payload Too Large^content-type: text/plain; charset=utf-8^connection: close^content-length: 39^^
+PUT /no-403 HTTP/1.1^Host: h^Content-Length: 17^^ -> HTTP/1.1 413 Payload Too Large^content-type: text/plain; charset=utf-8^connection: close^content-length: 39^^This is larger than this server takes.$
 
 # where there is room for 4 bytes of a body (RFC 9110, sections 10.2.3 and 15.6.4)
 PUT /a HTTP/1.1^Host: h^Content-Length: 4^^hell -> HTTP/1.1 200 OK^content-length: 20^^PUT /a HTTP/1.1|hell
-PUT /a HTTP/1.1^Host: h^Content-Length: 5^^hello -> HTTP/1.1 503 Service Unavailable^retry-after: 1^connection: close^content-length: 0^^
-PUT /a HTTP/1.1^Host: h^Expect: 100-continue^Content-Length: 5^^ -> HTTP/1.1 503 Service Unavailable^retry-after: 1^connection: close^content-length: 0^^
-LOCK /a HTTP/1.1^Host: h^Content-Length: 5^^hello -> HTTP/1.1 503 Service Unavailable^retry-after: 1^connection: close^content-length: 0^^
+PUT /a HTTP/1.1^Host: h^Content-Length: 5^^hello -> HTTP/1.1 503 Service Unavailable^retry-after: 1^content-type: text/plain; charset=utf-8^connection: close^content-length: 41^^This can't be taken now: try again soon.$
+PUT /a HTTP/1.1^Host: h^Expect: 100-continue^Content-Length: 5^^ -> HTTP/1.1 503 Service Unavailable^retry-after: 1^content-type: text/plain; charset=utf-8^connection: close^content-length: 41^^This can't be taken now: try again soon.$
+LOCK /a HTTP/1.1^Host: h^Content-Length: 5^^hello -> HTTP/1.1 503 Service Unavailable^retry-after: 1^content-type: text/plain; charset=utf-8^connection: close^content-length: 41^^This can't be taken now: try again soon.$
 PUT /a HTTP/1.1^Host: h^Transfer-Encoding: chunked^^3^abc^1^d^0^^ -> HTTP/1.1 200 OK^content-length: 20^^PUT /a HTTP/1.1|abcd
-PUT /a HTTP/1.1^Host: h^Transfer-Encoding: chunked^^3^abc^2^de^0^^ -> HTTP/1.1 503 Service Unavailable^retry-after: 1^connection: close^content-length: 0^^
-PUT /a HTTP/1.1^Host: h^Expect: 100-continue^Transfer-Encoding: chunked^^5^abcde -> HTTP/1.1 100 Continue^^HTTP/1.1 503 Service Unavailable^retry-after: 1^connection: close^content-length: 0^^
+PUT /a HTTP/1.1^Host: h^Transfer-Encoding: chunked^^3^abc^2^de^0^^ -> HTTP/1.1 503 Service Unavailable^retry-after: 1^content-type: text/plain; charset=utf-8^connection: close^content-length: 41^^This can't be taken now: try again soon.$
+PUT /a HTTP/1.1^Host: h^Expect: 100-continue^Transfer-Encoding: chunked^^5^abcde -> HTTP/1.1 100 Continue^^HTTP/1.1 503 Service Unavailable^retry-after: 1^content-type: text/plain; charset=utf-8^connection: close^content-length: 41^^This can't be taken now: try again soon.$
 GET /a HTTP/1.1^Host: h^^PUT /a HTTP/1.1^Host: h^Content-Length: 4^^hellGET /b HTTP/1.1^Host: h^Content-Length: 0^^ -> HTTP/1.1 200 OK^content-length: 16^^GET /a HTTP/1.1|HTTP/1.1 200 OK^content-length: 20^^PUT /a HTTP/1.1|hellHTTP/1.1 200 OK^content-length: 16^^GET /b HTTP/1.1|
-PUT /a HTTP/1.1^Host: h^Content-Length: 17^^ -> HTTP/1.1 413 Payload Too Large^connection: close^content-length: 0^^
+PUT /a HTTP/1.1^Host: h^Content-Length: 17^^ -> HTTP/1.1 413 Payload Too Large^content-type: text/plain; charset=utf-8^connection: close^content-length: 39^^This is larger than this server takes.$
 
 # a response that can't be sent
 GET /101 HTTP/1.1^Host: h^^ -> HTTP/1.1 500 Internal Server Error^connection: close^content-length: 0^^
@@ -87,6 +89,10 @@ impl Answerer for Echo {
 
     fn judge(&mut self, head: &[u8]) -> Result<Option<Rejection>, Stop> {
         Ok(rejection_in(line_of(head)))
+    }
+
+    fn hear_refused(&mut self, head: &[u8], status: u16) {
+        let _ = (head, status);
     }
 
     fn answer(&mut self, asked: &Asked, response: &mut Response) -> Result<(), Stop> {
@@ -138,6 +144,8 @@ fn unescaped(alloc: Global, text: &str) -> Result<Vec<u8>, AllocError> {
     for byte in text.as_bytes() {
         if *byte == b'^' {
             out.extend_from_slice(b"\r\n")?;
+        } else if *byte == b'$' {
+            out.push(b'\n')?;
         } else {
             out.push(*byte)?;
         }
@@ -206,6 +214,6 @@ fn rows_are_told(rt: HostRuntime) -> Result<(), Fail> {
             count = count.saturating_add(1);
         }
     }
-    assert!(rt; count == 41, "{count} rows");
+    assert!(rt; count == 43, "{count} rows");
     Ok(())
 }

@@ -12,6 +12,7 @@ use crate::ends::{ByRules, Ends};
 use crate::rejection::is_plain_read;
 use crate::service::{Service, stop_of};
 use crate::told::Replied;
+use crate::words::{explain, len_told};
 use bytes::Bytes;
 use dav_http::{Head, TimeRequest, time_request};
 use dav_kept::{Keeps, Request};
@@ -173,7 +174,7 @@ impl<H: Ends + Drop, J: Keeps + Drop> Service<H, J> {
     {
         let reply = Replied {
             status: response.status.as_u16(),
-            bytes: response.body.len(),
+            bytes: len_told(response),
         };
         Ok(self.told.note(self.admission.moment(), user, head, reply)?)
     }
@@ -430,10 +431,15 @@ impl<H: Ends + Drop, J: Keeps + Drop> Answerer for Service<H, J> {
         }
     }
 
+    fn hear_refused(&mut self, head: &[u8], status: u16) {
+        self.note_refused(head, status);
+    }
+
     fn answer(&mut self, asked: &Asked, response: &mut Response) -> Result<(), Stop> {
         let moment = self.admission.moment();
         self.is_asked = true;
         self.respond(asked, response)?;
+        explain(response)?;
         add_date(self.alloc, moment, response)
     }
 }

@@ -9,7 +9,7 @@ use crate::told::Replied;
 use dav_access::Credentials;
 use dav_http::Head;
 use dav_kept::Keeps;
-use dav_wire::{Asked, Rejection, Stop};
+use dav_wire::{Asked, Rejection, Stop, explanation};
 use http::StatusCode;
 use http_header::{HeaderValue, RETRY_AFTER};
 use http_server::Response;
@@ -171,10 +171,24 @@ impl<H: Ends + Drop, J: Keeps + Drop> Service<H, J> {
     {
         let reply = Replied {
             status: why.status(),
-            bytes: 0,
+            bytes: explanation(why.status()).len(),
         };
         self.told.note(self.admission.moment(), user, head, reply)?;
         Ok(Some(why))
+    }
+
+    // Notes that the connection itself refused a request with these bytes as its head. Where memory runs out it has no line.
+    pub(super) fn note_refused(&mut self, head: &[u8], status: u16)
+        ensures { self.new ≡ self.old }
+    {
+        let reply = Replied {
+            status,
+            bytes: explanation(status).len(),
+        };
+        let moment = self.admission.moment();
+        if let Some(head) = Head::read(head) {
+            let _ = self.told.note(moment, "", &head, reply);
+        }
     }
 }
 

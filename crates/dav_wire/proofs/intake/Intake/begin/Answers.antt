@@ -1,25 +1,25 @@
 use Rattle.std.proofs.Common.{◌≤◌, length, rules, refl, sym, ap, ◌∙◌, arith}
-use Rattle.dav_wire.proofs.Bodies.{too_long_ahead, no_room_ahead}
+use Rattle.dav_wire.proofs.Bodies.{too_long_ahead, no_room_ahead, knows}
 use Rattle.dav_wire.proofs.Events.{has_coding, head_work, begins, head_less, states_within, head_read, unjudged}
 use Rattle.dav_wire.proofs.intake.Intake.begin.Goals as goal
 
 pub returns-then-has_codings-clause-finds : goal.returns-then-has_codings-clause-finds
 returns-then-has_codings-clause-finds c = λ stream interim x.
-    (has_coding x (sym c.has_codings.ensures ∙ c.if-has_codings.true), head_work x c.args.self.now.ended)
+    (has_coding x (sym c.has_codings.ensures ∙ c.if-has_codings.true), head_work x c.args.self.now.ended, tt)
 
 pub returns-then-states_more-clause-finds : goal.returns-then-states_more-clause-finds
 returns-then-states_more-clause-finds c = λ stream interim x.
     let begun = begins x (sym c.has_codings.ensures ∙ c.if-has_codings.false) c.advance.new.self.items c.extend_from_slice.new.self.items
     c.of-method.result.now c.is_head-self.result c.most_of-self.result c.args.self.now.stated (search rules) (search rules) (search rules) (search rules) (search rules) in
     let long = c.states_more.ensures.long c.if-states_more.true in
-    (too_long_ahead begun long.0 long.1 long.2, head_work x c.args.self.now.ended)
+    (too_long_ahead begun long.0 long.1 long.2, head_work x c.args.self.now.ended, knows begun)
 
 pub returns-then-states_more-2-clause-finds : goal.returns-then-states_more-2-clause-finds
 returns-then-states_more-2-clause-finds c = λ stream interim x.
     let begun = begins x (sym c.has_codings.ensures ∙ c.if-has_codings.false) c.advance.new.self.items c.extend_from_slice.new.self.items
     c.of-method.result.now c.is_head-self.result c.most_of-self.result c.args.self.now.stated (search rules) (search rules) (search rules) (search rules) (search rules) in
     let long = c.states_more-2.ensures.long c.if-states_more-2.true in
-    (no_room_ahead begun c.args.room long.0 long.1 long.2, head_work x c.args.self.now.ended)
+    (no_room_ahead begun c.args.room long.0 long.1 long.2, head_work x c.args.self.now.ended, knows begun)
 
 pub returns-clause-fits : goal.returns-clause-fits
 returns-clause-fits c = λ x. record {

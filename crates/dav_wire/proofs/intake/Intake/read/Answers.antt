@@ -7,7 +7,7 @@ pub returns-in-Err-clause-finds : goal.returns-in-Err-clause-finds
 returns-in-Err-clause-finds c = λ stream interim x.
     let p = place c.args.self.now in
     let why = unreadable p stream interim c.in-Err.error x (rw (c.as_slice.ensures, c.requires) at c.in-Err.ensures.err) in
-    (why, inr (inr why.0))
+    (why, inr (inr why.0), tt)
 
 pub returns-in-Head-clause-finds : goal.returns-in-Head-clause-finds
 returns-in-Head-clause-finds c = λ stream interim x.

@@ -7,6 +7,7 @@ pub returns-clause-finds : goal.returns-clause-finds
 returns-clause-finds c = λ stream interim before x. (
   (c.if-not-self.false, starved_some (place c.args.self.now) stream interim x (c.is_between.ensures.within c.if-is_between.false), x.unfinished),
   inr (inl c.if-not-self.false),
+  tt,
 )
 
 pub returns-then-is_between-clause-finds : goal.returns-then-is_between-clause-finds

@@ -26,11 +26,11 @@ returns-in-Some-clause-reaches g c = λ old less x.
     ∙ ap (λ v. h.judgements ++ (l.intake.head.items, v) ∷ []) c.in-Some.is in
     let status : known_status c.status.result ≡ rejection_status c.in-Some.why =
     ap known_status c.status.ensures ∙ known_rejection c.in-Some.why in
-    let last : History = closed_with (Rejected c.in-Some.why) (closing_text (rejection_status c.in-Some.why)) (record h { judgements = js }) in
+    let last : History = closed_with (Rejected c.in-Some.why) (closing_text l.intake.is_head (rejection_status c.in-Some.why)) (record h { judgements = js }) in
     elim c.end.ensures.written [
       | inl written ↦
           reaches_over _ old _ p.config last
-          (written ∙ ap (λ n. closed_with (Rejected c.in-Some.why) (closing_text n) (record h { judgements = js })) status)
+          (written ∙ ap (λ n. closed_with (Rejected c.in-Some.why) (closing_text l.intake.is_head n) (record h { judgements = js })) status)
           c.end.ensures.keeps.config (λ is. cc) c.end.ensures.stops
           (head_rejected p h c.args.waits x c.in-Some.why js is)
       | inr written ↦

@@ -12,8 +12,8 @@ returns-in-Err-clause-reaches c = λ old less x.
     elim c.fail.ensures.written [
       | inl written ↦
           let why = c.in-Err.ensures.refused written.1 in
-          let same : history_of c.fail.new.self ≡ closed_with (Unsendable c.in-Err.error) (closing_text 500) (history_of l) =
-          written.0 ∙ ap (λ (t : List ℕ). closed_with (Unsendable c.in-Err.error) (closing_text 500) (record (history_of l) { pending = t })) why.1 in
+          let same : history_of c.fail.new.self ≡ closed_with (Unsendable c.in-Err.error) (closing_text true 500) (history_of l) =
+          written.0 ∙ ap (λ (t : List ℕ). closed_with (Unsendable c.in-Err.error) (closing_text true 500) (record (history_of l) { pending = t })) why.1 in
           reaches_over _ old _ _ _ same c.fail.ensures.keeps.config (λ is. cc) c.fail.ensures.stops
           (fails_with (place l.intake) (history_of l) l.response c.args.is_head x c.in-Err.error why.0)
       | inr written ↦

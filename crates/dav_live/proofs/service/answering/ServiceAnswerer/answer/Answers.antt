@@ -9,7 +9,9 @@ returns g c =
     (λ dated. record {
       own = c.respond.new.response;
       replies = c.in_ok-respond.ensures.replies;
-      dated = subst (λ (n : ℕ). IsDated n c.respond.new.response c.add_date.new.response) c.moment-moment.ensures.is dated;
+      said = c.explain.new.response;
+      explained = c.in_ok-explain.ensures;
+      dated = subst (λ (n : ℕ). IsDated n c.explain.new.response c.add_date.new.response) c.moment-moment.ensures.is dated;
       same = c.in_ok-respond.ensures.same;
       goes_on = c.in_ok-respond.ensures.goes_on;
     })

@@ -2,7 +2,7 @@ use Rattle.std.proofs.Common.{◌≡◌, refl, arith}
 use Rattle.std.proofs.lemmas.Bool.Decides.{nat_tests}
 use Rattle.httparse.specs.Grammar.{print_response}
 use Rattle.dav_wire.specs.Refusals.{known_status}
-use Rattle.dav_wire.proofs.state.closing_text.Goals as goal
+use Rattle.dav_wire.proofs.state.closing_head.Goals as goal
 
 pub returns-in-413 : goal.returns-in-413
 unfolding print_response
