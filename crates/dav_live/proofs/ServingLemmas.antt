@@ -11,7 +11,8 @@ use Rattle.dav_server.specs.Head.{IsHead, Request}
 use Rattle.dav_wire.specs.declared.answer.Asked.{Asked}
 use Rattle.dav_access.specs.Rules.{Rules}
 use Rattle.dav_access.specs.declared.limit.Limit.{Limit}
-use Rattle.dav_live.specs.Admission.{AdmissionView, HasLeaveIn, IsLookOf, IsRequestOf, IsTokenFor, after_clocks, challenge_fields, next, none, request_in}
+use Rattle.dav_live.specs.Full.{IsUnrun}
+use Rattle.dav_live.specs.Admission.{AdmissionView, HasLeaveIn, IsLookOf, IsRequestOf, IsTokenFor, after_clocks, next, none, request_in}
 use Rattle.dav_live.specs.declared.admission.Admitted.{Admitted}
 use Rattle.dav_live.specs.Numbered.{HasNumber}
 use Rattle.dav_live.specs.Runs.{GoesOn}
@@ -91,7 +92,7 @@ passed_later answers is_clean kept ends (Err e) old noted new seconds date a sta
 
 pub ran_or_not : {S : Type 0} (answers : S → RequestView → Response → S → Type 0) (refuses : Option Rules → List Limit → S → Request → RequestView → ℕ → Type 0) (looks : Rules → S → RequestView → Response → Type 0) (a b : AdmissionView) (old new noted : Holding S)
     (asked : Asked) (r : Request) (admitted : Admitted) (own : Response) → IsHead asked.head r → IsRequestOf a old.tokens r asked.body (request_in a admitted asked.body) → b ≡ a → noted ≡ new
-    → ((status : ℕ) × refuses b.rules b.limits old.state r (request_in b admitted asked.body) status × IsResponse status (challenge_fields status) [] own × (new ≡ old))
+    → ((status : ℕ) × refuses b.rules b.limits old.state r (request_in b admitted asked.body) status × IsUnrun status own × (new ≡ old))
     ⊎ (((status : ℕ) → ¬ refuses b.rules b.limits old.state r (request_in b admitted asked.body) status) × IsRunWhole answers b old (request_in b admitted asked.body) own new)
     → IsResponseTo answers refuses looks a old asked own noted
 ran_or_not answers refuses looks a b old new noted asked r admitted own is request same noted-is (inl (status, refused, answer, left)) =

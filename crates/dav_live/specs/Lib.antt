@@ -9,6 +9,7 @@ pub mod Waiting
 pub mod Verdicts
 pub mod Runs
 pub mod Words
+pub mod Full
 pub mod Serving
 pub mod Locked
 pub mod Answers

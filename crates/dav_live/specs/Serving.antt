@@ -16,7 +16,7 @@ use Rattle.dav_kept.specs.declared.kept.Kept.{Kept}
 use Rattle.dav_server.specs.Head.{IsHead, Request}
 use Rattle.dav_wire.specs.declared.answer.Asked.{Asked}
 use Rattle.dav_wire.specs.declared.answer.Rejection.{Rejection}
-use Rattle.dav_live.specs.Admission.{AdmissionView, HasLeaveIn, IsLookOf, IsRequestOf, IsTurnedAway, after_clocks, challenge_fields, refusal_fields, status_of, with_random}
+use Rattle.dav_live.specs.Admission.{AdmissionView, HasLeaveIn, IsLookOf, IsRequestOf, IsTurnedAway, after_clocks, refusal_fields, status_of, with_random}
 use Rattle.dav_live.specs.Lists.{IsFaulty, Reports}
 use Rattle.dav_live.specs.Runs.{Commits, GoesOn, Saves, StaysKept}
 use Rattle.dav_live.specs.Rejections.{IsPlainRead}
@@ -24,6 +24,7 @@ use Rattle.dav_live.specs.Verdicts.{IsVerdict}
 use Rattle.dav_live.specs.declared.admission.Reason.{Reason}
 use Rattle.dav_live.specs.declared.lists.ListsError.{ListsError}
 use Rattle.dav_live.specs.Waiting.{HasToWait, IsAfterLogin, IsAfterVerdict, MayBeHeard, wait_fields}
+use Rattle.dav_live.specs.Full.{IsFull, IsUnrun}
 use Rattle.dav_live.specs.Words.{IsExplained}
 use Rattle.dav_live.specs.declared.service.Service.{Service}
 
@@ -50,7 +51,7 @@ held_of s = held_by s.kept
 pub data IsRun {S : Type 0} (answers : S → RequestView → Response → S → Type 0) (old : Holding S) (q : RequestView) (own : Response)
     (new : Holding S) : Type 0 where
   answered : (does : Effect) → IsAnswerOf answers old q own does new → IsRun answers old q own new
-  full : IsResponse 507 [] [] own → new ≡ old → IsRun answers old q own new
+  full : IsFull own → new ≡ old → IsRun answers old q own new
 
 -- a request of the server's own that belongs to another one: by the same user, at the same moment
 abbrev pub belonging_to : RequestView → List ℕ → List ℕ → RequestView
@@ -90,7 +91,7 @@ pub data IsResponseTo {S : Type 0} (answers : S → RequestView → Response →
   turned_away : (r : Request) (reason : Reason) (user : List ℕ) → IsHead asked.head r → IsTurnedAway a r asked.body reason user
       → IsResponse (status_of reason) (refusal_fields reason) [] own → new ≡ old → IsResponseTo answers refuses looks a old asked own new
   not_run : (r : Request) (q : RequestView) (status : ℕ) → IsHead asked.head r → IsRequestOf a old.tokens r asked.body q → refuses a.rules a.limits old.state r q status
-      → IsResponse status (challenge_fields status) [] own → new ≡ old → IsResponseTo answers refuses looks a old asked own new
+      → IsUnrun status own → new ≡ old → IsResponseTo answers refuses looks a old asked own new
   shown_way : (r : Request) (q : RequestView) (rules : Rules) → IsHead asked.head r → IsLookOf a r asked.body q → a.rules ≡ Some rules
       → looks rules old.state q own → new ≡ old → IsResponseTo answers refuses looks a old asked own new
   run : (r : Request) (q : RequestView) → IsHead asked.head r → IsRequestOf a old.tokens r asked.body q → ((status : ℕ) → ¬ refuses a.rules a.limits old.state r q status)

@@ -3,13 +3,15 @@ ghost use Rattle.std.specs.Prelude.{◌≡◌, ◌≢◌, ◌↔◌, [], IfOk, I
 ghost use Rattle.std.specs.Bool.{Decides};
 ghost use Rattle.http_server.specs.Response.{IsBlank, IsResponse};
 ghost use Rattle.dav_core.specs.declared.errors.DavError.TheVariants.{IllegalPath, Memory};
-ghost use Rattle.dav_live.specs.Admission.{HasManySlashes, HasSwollenBody, IsOutside, IsTokenFor, challenge_fields, reason_for, refusal_fields, slashes_in, status_elsewhere, status_of};
+ghost use Rattle.dav_live.specs.Full.{IsUnrun};
+ghost use Rattle.dav_live.specs.Admission.{HasManySlashes, HasSwollenBody, IsOutside, IsTokenFor, reason_for, refusal_fields, slashes_in, status_elsewhere, status_of};
 ghost use Rattle.dav_live.specs.declared.admission.RefusedRequest.{RefusedRequest as RefusedValue};
 
 mod judging;
 mod login;
 
 use crate::clock::moment_after;
+use crate::full::fill_past;
 use crate::hosts::is_for;
 use crate::limits::joined;
 use crate::lists::{Lists, ListsError, texts_in};
@@ -242,6 +244,7 @@ impl Admission {
     ghost use Rattle.dav_access.specs.Users.{IsName};
     ghost use Rattle.dav_core.specs.World.{last_moment};
     ghost use Rattle.dav_http.specs.Placed.{BeginsPast};
+    ghost use Rattle.dav_live.specs.Full.{IsUnrun};
     ghost use Rattle.dav_live.specs.Admission.{HasManySlashes, HasLeaveIn, HasSwollenBody, IsDecision, IsClosedTo, IsElsewhereIn, IsHeadKept, IsHereIn, IsLetIn, IsMadeBy, LooksIn, MayAskIn, IsOutside, IsRequestOf, TellsSafe, after_clocks, gone_on, request_in, users_for, with_random};
     ghost use Rattle.dav_live.specs.Hosts.{value_of};
     ghost use Rattle.dav_live.specs.Lists.{IsFaulty, Reports};
@@ -611,13 +614,17 @@ fn refused_of(alloc: Global, reason: Reason, user: Option<String>) -> Decision
     refused(reason, user.unwrap_or(String::new(alloc)))
 }
 
-/// Fills the response to a request that isn't run with this status: 401 has the challenge (RFC 9110, section 11.6.1).
+/// Fills the response to a request that isn't run with this status: 401 has the challenge (RFC 9110, section 11.6.1), and 507 is the error
+/// that a limit would be passed (RFC 4331, section 6).
 pub fn refuse_with(status: StatusCode, response: &mut Response) -> Result<(), AllocError>
     requires { IsBlank response.old }
-    ensures { OnOk result (IsResponse status (challenge_fields status) [] response.new) }
+    ensures { OnOk result (IsUnrun status response.new) }
 {
     if status == StatusCode::UNAUTHORIZED {
         return refuse(Reason::Unauthorized, response);
+    }
+    if status == StatusCode::INSUFFICIENT_STORAGE {
+        return fill_past(response);
     }
     response.status = status;
     Ok(())

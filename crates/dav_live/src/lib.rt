@@ -10,6 +10,7 @@ mod clock;
 mod ends;
 mod fault;
 mod follower;
+mod full;
 mod hosts;
 pub mod laws;
 mod limits;

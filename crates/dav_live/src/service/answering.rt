@@ -9,6 +9,7 @@ ghost use Rattle.http_server.specs.Response.{fields_of};
 
 use crate::admission::{Admitted, Decision, refuse, refuse_with};
 use crate::ends::{ByRules, Ends};
+use crate::full::fill_full;
 use crate::rejection::is_plain_read;
 use crate::service::{Service, stop_of};
 use crate::told::Replied;
@@ -32,7 +33,8 @@ impl<H: Ends + Drop, J: Keeps + Drop> Service<H, J> {
     ghost use Rattle.dav_live.specs.Numbered.{HasNumber};
     ghost use Rattle.dav_live.specs.Answers.{IsKeptFrom};
     ghost use Rattle.dav_access.specs.Rules.{Rules as RulesValue};
-    ghost use Rattle.dav_live.specs.Admission.{LooksIn, challenge_fields, request_in};
+    ghost use Rattle.dav_live.specs.Admission.{LooksIn, request_in};
+    ghost use Rattle.dav_live.specs.Full.{IsUnrun};
     ghost use Rattle.dav_live.specs.Runs.{GoesOn};
     ghost use Rattle.dav_live.specs.Serving.{IsAccepted, IsReplyTo, IsResponseTo, IsRun, IsRunWhole, IsTimed, StaysAll, admission_of, belonging_to, held_of, kept_of, logins_of};
 
@@ -104,7 +106,7 @@ impl<H: Ends + Drop, J: Keeps + Drop> Service<H, J> {
             (((status : ℕ) × H.refuses (admission_of self.old).rules (admission_of self.old).limits
             (held_of self.old).state head.now
             (request_in (admission_of self.old) admitted.now body.now) status
-            × IsResponse status (challenge_fields status) [] response.new
+            × IsUnrun status response.new
             × (held_of self.new ≡ held_of self.old))
             ⊎ (((status : ℕ) → ¬ H.refuses (admission_of self.old).rules
             (admission_of self.old).limits (held_of self.old).state head.now
@@ -301,7 +303,7 @@ impl<H: Ends + Drop, J: Keeps + Drop> Service<H, J> {
             (GoesOn H.answers J.is_clean J.kept (kept_of self.old) (kept_of self.new)) }
     {
         if !self.kept.handler().takes_room(request)? {
-            response.status = StatusCode::INSUFFICIENT_STORAGE;
+            fill_full(response)?;
             return Ok(());
         }
         match self.kept.answer(request, response) {
@@ -310,7 +312,7 @@ impl<H: Ends + Drop, J: Keeps + Drop> Service<H, J> {
                 Ok(())
             }
             Ok(None) => {
-                response.status = StatusCode::INSUFFICIENT_STORAGE;
+                fill_full(response)?;
                 Ok(())
             }
             Err(error) => Err(stop_of(error)),
