@@ -248,13 +248,13 @@ module _ (config : Config) (h : History) (came : List ℕ) (over : Bool) (going 
       → ClosesRequest config.limits (stream ++ came) status text
   closes_grows status x = (x.0, x.1, x.2 ++ came, AcceptsRequest-append x.3 came, x.4)
 
-  says_grows : {stream text : List ℕ} (why : Refusal) → IsRefusalText config.limits stream why text
+  says_grows : (stream text : List ℕ) (why : Refusal) → IsRefusalText config.limits stream why text
       → IsRefusalText config.limits (stream ++ came) why text
-  says_grows Truncated x = x
-  says_grows (Unreadable e) x = x
-  says_grows BodyTooLong x = closes_grows 413 x
-  says_grows UnknownCoding x = x
-  says_grows (NoRoom room) x = closes_grows 503 x
+  says_grows stream text Truncated x = x
+  says_grows stream text (Unreadable e) x = x
+  says_grows stream text BodyTooLong x = closes_grows 413 x
+  says_grows stream text UnknownCoding x = x
+  says_grows stream text (NoRoom room) x = closes_grows 503 x
 
   module _ (answered : List Call) (text interim rest : List ℕ) where
     stands_grows : (s : State) → Stands s config h answered text interim rest
@@ -271,7 +271,7 @@ module _ (config : Config) (h : History) (came : List ℕ) (over : Bool) (going 
     }
     stands_grows (Closing EndOfInput) says = let ended = says.ended in absurd (cc)
     stands_grows (Closing (Refused why)) says =
-        (says.0, refusal_grows rest why says.1, (says.2.0, says_grows why says.2.1, says.2.2), may_grows says.3)
+        (says.0, refusal_grows rest why says.1, (says.2.0, says_grows _ _ why says.2.1, says.2.2), may_grows says.3)
     stands_grows (Closing (Rejected why)) says = record {
       calls_are = says.calls_are;
       judged = next_judged_grows (Some why) says.judged;

@@ -1,5 +1,5 @@
 //! One connection, step by step.
-ghost use Rattle.std.specs.Prelude.{◌≡◌, ◌≢◌, ℕ, ◌<◌, ◌≤◌, ◌⊎◌, ◌↔◌, [], ◌++◌, length, MatchBool, IsTrue, IsFalse, OnOk, OnErr};
+ghost use Rattle.std.specs.Prelude.{◌≡◌, ◌≢◌, ℕ, ◌<◌, ◌≤◌, ◌⊎◌, ◌↔◌, [], ◌++◌, length, MatchBool, IsTrue, IsFalse, OnOk, OnErr, true};
 ghost use Rattle.http_server.specs.declared.state.TheConstants.{MAX_HEADERS};
 ghost use Rattle.dav_wire.specs.Refusals.{closing_text, known_status};
 

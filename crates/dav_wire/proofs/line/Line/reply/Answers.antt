@@ -1,4 +1,4 @@
-use Rattle.std.proofs.Common.{◌≡◌, List, ℕ, ap, ◌∙◌, inl, inr}
+use Rattle.std.proofs.Common.{◌≡◌, List, ℕ, true, ap, ◌∙◌, inl, inr}
 use Rattle.dav_wire.specs.Place.{place, history_of, closed_with}
 use Rattle.dav_wire.specs.declared.state.Reason.TheVariants.{Unsendable}
 use Rattle.dav_wire.specs.Refusals.{closing_text}
