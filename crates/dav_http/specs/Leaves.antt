@@ -1,16 +1,16 @@
--- Which requests leave the server as it was (RFC 9110, sections 9.2.1, 13.2.1, 15.5.1 and 15.6.2; RFC 4918, section 11.3).
-use Rattle.std.specs.Prelude.{◌≡◌, ◌≢◌, ℕ, true, List, codes, Ok, Err}
+-- Which requests leave the server as it was (RFC 9110, sections 9.2.1, 15.5 and 15.6).
+use Rattle.std.specs.Prelude.{◌≡◌, ℕ, true, List, Ok, Err}
 use Rattle.dav_core.specs.declared.errors.DavError.{DavError}
 use Rattle.dav_core.specs.declared.method.DavMethod.{DavMethod}
 use Rattle.dav_server.specs.Head.{IsHead, Request}
+use Rattle.dav_server.specs.Leaving.{IsEarlyError}
 use Rattle.dav_server.specs.Method.{GivesServed}
 use Rattle.dav_server.specs.TagLaws.{is_safe}
 
 -- A request with these bytes as its head, and which is answered with this status, is known to leave the server as it was: the bytes are no
--- head; its method only reads, or isn't served; it is refused by a lock; or by a condition, and isn't a LOCK.
+-- head; its method only reads, or isn't served; or the status is an error that only comes before its method changes something.
 pub data Leaves (head : List ℕ) (status : ℕ) : Type 0 where
   no_head : ((r : Request) → ¬ IsHead head r) → Leaves head status
   reading : (r : Request) (m : DavMethod) → IsHead head r → GivesServed r.method (Ok m) → is_safe m ≡ true → Leaves head status
   unserved : (r : Request) (e : DavError) → IsHead head r → GivesServed r.method (Err e) → Leaves head status
-  locked : status ≡ 423 → Leaves head status
-  unmet : (r : Request) → IsHead head r → status ≡ 412 → r.method ≢ codes "LOCK" → Leaves head status
+  early : (r : Request) (m : DavMethod) → IsHead head r → GivesServed r.method (Ok m) → IsEarlyError m status → Leaves head status

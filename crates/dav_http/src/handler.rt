@@ -202,7 +202,7 @@ impl Handler {
 
     /// The reply to a request with this head and a body of these bytes, by this caller: those of a step of the machine. What
     /// the client is told in XML may be sent, so it can be read (RFC 4918, section 8.2). A request that only reads, one of a method that isn't
-    /// served, and one that is refused by a condition or a lock leave the server as it was (`Leaves`).
+    /// served, and one that is answered with an error that only comes before a change leave the server as it was (`Leaves`).
     ///
     /// `Principal` exactly where a reply can't tell the caller's name; nothing is changed then. `Memory` where memory runs out.
     pub fn handle(

@@ -9,6 +9,7 @@ ghost use Rattle.dav_headers.specs.declared.timeout.DavTimeout.{DavTimeout as Da
 ghost use Rattle.dav_engine.specs.LockHeaders.{preferred};
 ghost use Rattle.dav_server.specs.Head.{IsHead, Request};
 ghost use Rattle.dav_server.specs.Headers.{headers_of};
+ghost use Rattle.dav_server.specs.Leaving.{IsEarlyError, is_early_status, may_come_late};
 ghost use Rattle.dav_server.specs.Method.{GivesServed};
 ghost use Rattle.dav_server.specs.TagLaws.{is_safe};
 ghost use Rattle.dav_http.specs.Kept.{lowered};
@@ -166,11 +167,30 @@ pub fn is_safe(method: &[u8]) -> bool
     )
 }
 
-// Whether a method is served.
-fn is_served(method: &[u8]) -> bool
-    ensures { IsTrue result ↔ (m : DavMethodValue) × GivesServed method.now (Ok m) }
+// Whether the status is one of those with which nothing was done of a request that may be carried out in part.
+fn is_early_status(status: u16) -> bool
+    ensures { result ≡ is_early_status status }
 {
-    method_of(method).is_ok()
+    (status == 400) | (status == 412) | (status == 415) | (status == 423)
+}
+
+// Whether an error of this method with this status may come after something was changed.
+fn may_come_late(method: DavMethod, status: u16) -> bool
+    ensures { result ≡ may_come_late method status }
+{
+    match method {
+        DavMethod::Put | DavMethod::Patch => (status == 404) | (status == 413) | (status == 500),
+        DavMethod::Delete | DavMethod::Copy | DavMethod::Move => !is_early_status(status),
+        DavMethod::Lock => !is_early_status(status) | (status == 412),
+        _ => false,
+    }
+}
+
+// Whether the status is an error that only comes before this method changes something.
+fn is_early_error(method: DavMethod, status: u16) -> bool
+    ensures { IsTrue result ↔ IsEarlyError method status }
+{
+    (status >= 400) & !may_come_late(method, status)
 }
 
 // Whether a request with this method, and which is answered with this status, left the server as it was.
@@ -178,13 +198,16 @@ fn method_leaves(method: &[u8], status: u16) -> bool
     ensures { (head : List ℕ) (r : Request) → IsHead head r → method.now ≡ r.method
         → (IsTrue result ↔ Leaves head status) }
 {
-    let (safe, served, lock) = (is_safe(method), is_served(method), is_lock(method));
-    safe | (!served | ((status == 423) | ((status == 412) & !lock)))
+    match method_of(method) {
+        Ok(known) => is_safe(method) | is_early_error(known, status),
+        Err(_) => true,
+    }
 }
 
 /// Whether a request with this head, and which is answered with this status, left the server as it was: the bytes are no head,
-/// its method only reads or isn't served, or it is refused by a lock or, but for LOCK, by a condition (RFC 9110, sections 9.2.1,
-/// 13.2.1 and 15.6.2; RFC 4918, section 11.3).
+/// its method only reads or isn't served, or the status is an error that only comes before its method changes something. It may
+/// come later where a PUT or PATCH is answered 404, 413 or 500, a DELETE, COPY or MOVE another than 400, 412, 415 and 423, and a
+/// LOCK another than 400, 415 and 423 (RFC 9110, sections 9.2.1, 15.5 and 15.6).
 pub fn leaves(head: &[u8], status: u16) -> bool
     ensures { IsTrue result ↔ Leaves head.now status }
 {

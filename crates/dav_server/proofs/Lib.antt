@@ -31,6 +31,9 @@ pub mod StoredBytes
 pub mod NoLostUpdate
 pub mod WriteLemmas
 pub mod ErrorLemmas
+pub mod EarlyStatuses
+pub mod OpenedFiles
+pub mod EarlyErrors
 pub mod UngrantedLemmas
 pub mod RefusedLemmas
 pub mod TurnLemmas

@@ -4,7 +4,7 @@ ghost use Rattle.dav_server.specs.Headers.{KeepsValues};
 ghost use Rattle.dav_server.specs.Headline.{HeadlineHolds};
 ghost use Rattle.dav_server.specs.StoredLaws.{PatchesAreMade, StoredComesBack};
 ghost use Rattle.dav_server.specs.HrefLaws.{TargetsAreServed, TextsLeadBack, StatusesLeadBack, PropertiesLeadBack, RepliesLeadBack, ListingsAreWhole, UnrefusedStepsList};
-ghost use Rattle.dav_server.specs.Leaving.{CreateOnlyFails, ErrorsLeave, RefusedLeaves};
+ghost use Rattle.dav_server.specs.Leaving.{CreateOnlyFails, EarlyErrorsLeave, ErrorsLeave, RefusedLeaves};
 ghost use Rattle.dav_server.specs.PathLaws.{OneTextOnePath};
 ghost use Rattle.dav_server.specs.Promises.{RunsPromise};
 ghost use Rattle.dav_server.specs.Run.{RunsAreDetermined, RunsSplit, RunsJoin, RunsEnd, ShortnessIsKept, CutsAreLikeSteps, RequestsHavePlans, RequestsHaveRuns};
@@ -182,6 +182,14 @@ pub fn refused_requests_leave_all()
 /// 9110, section 15; RFC 4918, section 9.10).
 pub fn errors_leave_all()
     ensures { ErrorsLeave }
+{}
+
+/// A request that is answered with an error leaves the world and the list of locks, in a world of which no call is refused but by its own rules,
+/// unless its method with this status may come after a change (`may_come_late`): of a PUT or PATCH 404, 413 and 500; of a DELETE, COPY or MOVE all but
+/// 400, 412, 415 and 423; of a LOCK all but 400, 415 and 423 (RFC 9110, section 15; RFC 4918, sections 9.6.1 to 9.10.4).
+#[tactic(auto, using(crate::proofs::EarlyErrors::early_errors_leave))]
+pub fn early_errors_leave_all()
+    ensures { EarlyErrorsLeave }
 {}
 
 /// Each run of requests that are made at moments that HTTP can write keeps the promises of the record `Promises`, whatever the store refuses

@@ -4,7 +4,6 @@ use Rattle.dav_core.specs.Asking.{StoreState}
 use Rattle.dav_core.specs.Locks.{Lock}
 use Rattle.dav_engine.specs.Reply.{Reply}
 use Rattle.dav_server.specs.Server.{HandlerView, Server}
-use Rattle.dav_server.proofs.EachRequestLemmas.{refused_status_leaves}
 use Rattle.dav_store.specs.Store.{Store}
 use Rattle.dav_http.specs.Leaves.{Leaves}
 use Rattle.dav_http.specs.Steps.{AnsweredInParts}
@@ -49,7 +48,7 @@ returns-clause-left g c =
           subst (λ r. IfOk r Left) (sym w.result-is)
           (λ left.
           left_as_it_was c.self.inside.handler.server c.handle_to.new.self.server c.args.exchange.now w.in-Ok.ensures.ok.whole c.fs.result.now w.fs-in-Ok.result.now w.in-Ok.ensures.same w.in-Ok.ensures.ok.answers
-          w.in-Ok.ensures.reading (refused_status_leaves _ _ _ _ w.in-Ok.ensures.ok.whole w.in-Ok.ensures.ok.answers) c.fs.ensures.state w.fs-in-Ok.ensures.state (sym c.if-was_short.ensures) (sym w.if-was_short-2.ensures)
+          w.in-Ok.ensures.reading c.self.invariant.world c.requires.moment c.fs.ensures.state w.fs-in-Ok.ensures.state (sym c.if-was_short.ensures) (sym w.if-was_short-2.ensures)
           (subst (λ n. Leaves c.args.exchange.now.head n) (same_status g.T.Takes.opened g.T.Takes.taken c.args.to w.in-Ok.ensures.ok.whole w.in-Ok.told.0 w.in-Ok.told.1 w.in-Ok.ensures.ok.handed) left)
           ∙ ap (λ (h : HandlerView Store (List Lock)). h.server) c.self.view_is)
       | in-Err w ↦ subst (λ r. IfOk r Left) (sym w.result-is) tt
