@@ -102,9 +102,9 @@ module _ (s : Server) (q : Request) (body : List ℕ) (is_patch : q.method ≡ c
   crowded_at prefix target below asked p reads is decides =
       let named : TargetNames s.settings.prefix PropPatch q.target (Ok p) =
       subst (λ (t : List ℕ). TargetNames s.settings.prefix PropPatch t (Ok p)) asked (subst (λ (t : List ℕ). TargetNames t PropPatch target (Ok p)) below reads) in (
-        λ yes. (is_patch, p, named, decides.0 yes),
+        λ yes. (p, is_patch, named, decides.0 yes),
         λ crowds.
-            let (method, r, also, there) = crowds in
+            let (r, method, also, there) = crowds in
             decides.1 (
             subst (λ (x : PathText). AreTooMany (properties_of (node_at s.state.store.world (names x))) (set_in body))
             (one_path r p (one_outcome s.settings.prefix PropPatch q.target (Ok r) (Ok p) also named)) there
@@ -114,11 +114,11 @@ module _ (s : Server) (q : Request) (body : List ℕ) (is_patch : q.method ≡ c
   -- where no path is read in a target, nothing is
   pub crowded_nowhere : (prefix target : List ℕ) → prefix ≡ s.settings.prefix → target ≡ q.target → (e : DavError) → (e ≡ dav.Memory) ⊎ TargetNames prefix PropPatch target (Err e)
       → e ≢ dav.Memory → (is : Bool) → is ≡ false → Decides is (IsCrowded s q body)
-  crowded_nowhere prefix target below asked e (inl memory) other is no = absurd (other memory)
-  crowded_nowhere prefix target below asked e (inr reads) other is no = (
-    λ yes. absurd (true≢false (sym yes ∙ no)),
+  crowded_nowhere prefix target below asked e (inl memory) other is never = absurd (other memory)
+  crowded_nowhere prefix target below asked e (inr reads) other is never = (
+    λ yes. absurd (true≢false (sym yes ∙ never)),
     λ crowds.
-        let (method, r, also, there) = crowds in
+        let (r, method, also, there) = crowds in
         not_both r e (one_outcome s.settings.prefix PropPatch q.target (Ok r) (Err e) also
         (subst (λ (t : List ℕ). TargetNames s.settings.prefix PropPatch t (Err e)) asked (subst (λ (t : List ℕ). TargetNames t PropPatch target (Err e)) below reads))),
   )

@@ -25,5 +25,5 @@ AreTooMany there set = (most_properties - there.count < set.count) ⊎ (most_pro
 -- a request is a PROPPATCH that sets more properties, or more bytes of them, than its target may have besides those that it has
 abbrev pub IsCrowded : Server → Request → List ℕ → Type 0
 IsCrowded s q body =
-    (q.method ≡ codes "PROPPATCH")
-    × ((p : PathText) × TargetNames s.settings.prefix PropPatch q.target (Ok p) × AreTooMany (properties_of (node_at s.state.store.world (names p))) (set_in body))
+    (p : PathText) × (q.method ≡ codes "PROPPATCH") × TargetNames s.settings.prefix PropPatch q.target (Ok p)
+    × AreTooMany (properties_of (node_at s.state.store.world (names p))) (set_in body)

@@ -12,12 +12,20 @@ use dav_store::memfs::{Stored, tree_len};
 use dav_xml::XmlError;
 use std::alloc::Global;
 
+// How many children an element has.
+#[tactic(auto, using(crate::proofs::SettingLemmas::children_count))]
+fn children_of(element: &Element) -> u64
+    ensures { result ≡ length (children_of element.now) }
+{
+    element.children.len() as u64
+}
+
 // How many children a child has.
 fn children_in(node: &XmlNode) -> u64
     ensures { result ≡ length (children_of (node_tree node.now)) }
 {
     match node {
-        XmlNode::Element(element) => element.children.len() as u64,
+        XmlNode::Element(element) => children_of(element),
         XmlNode::Text(_) => 0,
     }
 }

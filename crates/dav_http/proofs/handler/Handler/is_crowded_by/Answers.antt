@@ -14,7 +14,7 @@ returns-in-Ok c =
 pub returns-in-Err : goal.returns-in-Err
 returns-in-Err c =
     IfOk-weaker c.nowhere.result _ _
-    (λ is no.
+    (λ is never.
     crowded_nowhere c.args.self.now.server c.args.head.now c.args.body.now c.requires c.prefix.result.now c.target.result.now
-    (c.prefix.ensures ∙ ap (λ h. h.server.settings.prefix) c.self.view_is) c.target.ensures c.in-Err.error c.in-Err.ensures.path no.1 is no.0)
+    (c.prefix.ensures ∙ ap (λ h. h.server.settings.prefix) c.self.view_is) c.target.ensures c.in-Err.error c.in-Err.ensures.path never.1 is never.0)
     c.nowhere.ensures
