@@ -4,6 +4,7 @@ use Rattle.std.specs.Bool.{Decides}
 use Rattle.http_server.specs.declared.response.Response.{Response}
 use Rattle.dav_core.specs.declared.method.DavMethod.TheVariants.{Get, Head, PropFind}
 use Rattle.dav_core.specs.Locks.{Lock}
+use Rattle.dav_engine.specs.Plan.{Locks}
 use Rattle.dav_engine.specs.Reply.{Reply}
 use Rattle.dav_server.specs.Head.{IsHead, Request}
 use Rattle.dav_server.specs.Machine.{Exchange}
@@ -26,6 +27,7 @@ use Rattle.dav_http.proofs.RefusedLemmas.{may_be_refused, said_of}
 use Rattle.dav_limits.specs.Limits.{IsPast}
 use Rattle.dav_seen.specs.Ways.{IsWayReply}
 use Rattle.dav_live.proofs.AdmissionLemmas.{exchange_with}
+use Rattle.dav_live.specs.Locked.{IsTold, as_it_was}
 use Rattle.dav_live.specs.Answers.{AsksToSee, IsAnswer, IsBarred, IsForeignUnlock, IsKeptFrom, IsListingSent, IsLook, IsNotRun, IsRefused, IsSentFor, MayUnlockIn, barred, caller_of, full, presented, refused, replied, seen, shown, told}
 
 -- a GET or HEAD leaves the server
@@ -50,6 +52,10 @@ module _ (old mid : Server) (q : RequestView) (head : List ℕ) (same : head ≡
 
 -- ---- listings
 
+-- a listing tells of no lock that is in the way
+listing_told : (locks : Locks) (prefix head : List ℕ) (principal : Option (List ℕ)) (r : Reply) → r.status ≡ 207 → IsTold locks prefix head principal r r
+listing_told locks prefix head principal r listed = as_it_was (λ bare. let wrong : 207 ≡ 423 = sym listed ∙ bare.0 in cc) refl
+
 -- a PROPFIND leaves the server
 pub finding_leaves : (head : List ℕ) (r : Request) → IsHead head r → r.method ≡ codes "PROPFIND" → (status : ℕ) → Leaves head status
 finding_leaves head r is named status = reading r PropFind is (tt, named) refl
@@ -61,7 +67,9 @@ module _ (old mid : Server) (q : RequestView) (start : Listed) (reply : Reply) (
       → ShowsListing r reply l sent → IsAnswer old q sent mid
   listing_answered r place available l same is named begun parts shows =
       replied parts.whole parts.step
-      (presented r is place available (listing named
+      (presented r parts.whole is
+      (listing_told mid.state.locks mid.settings.prefix q.head q.principal parts.whole (ap (λ (t : Reply). t.status) parts.handed.4 ∙ parts.handed.3))
+      place available (listing named
       (subst (λ (s : Server). IsSentWith (applied r parts.whole) false (found (leaves_out r) (room_of s place available) q.body parts.whole) sent) (sym same)
       (shows (room_of old place available) q.body start parts.whole begun parts.handed))))
 

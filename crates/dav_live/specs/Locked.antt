@@ -125,7 +125,7 @@ pub data IsToldBy (ls : List Lock) (head : List ℕ) (asked : AskedView) (princi
 -- The reply that a client is shown of one to a request with this head, below this prefix, by this principal: one of 423 with the lock
 -- that keeps the request out, each other as it was.
 pub data IsTold (locks : Locks) (prefix head : List ℕ) (principal : Option (List ℕ)) (own told : Reply) : Type 0 where
-  other : ¬ IsBare423 own → told ≡ own → IsTold locks prefix head principal own told
+  as_it_was : ¬ IsBare423 own → told ≡ own → IsTold locks prefix head principal own told
   without_locks : locks ≡ None → told ≡ own → IsTold locks prefix head principal own told
   unread : ((s : Settings) (x : Exchange) → s.prefix ≡ prefix → x.head ≡ head → IsUnread s x) → told ≡ own → IsTold locks prefix head principal own told
   locked : (ls : List Lock) (asked : AskedView) → IsBare423 own → locks ≡ Some ls

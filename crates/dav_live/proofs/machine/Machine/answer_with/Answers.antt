@@ -18,12 +18,13 @@ returns-in_default c =
 pub returns : goal.returns
 returns c =
     let head = subst (λ (q : RequestView). IsHead q.head c.in-Some.head) c.request.view_is c.in-Some.ensures in
+    let told : Reply = c.in_ok-told.told in
     let store = c.in_ok-store.store in
     let place = option_map (λ p. names p.now) store.place in (
-      presented c.in-Some.head head place store.available
-          (subst (λ (s : Server). IsShown c.in-Some.head c.args.request.now.body c.args.request.now.moment (room_of s place store.available) c.args.reply c.present.new.response) c.in_ok-store.ensures
-          (subst (λ (q : RequestView). IsShown c.in-Some.head q.body q.moment (room_in store) c.args.reply c.present.new.response) c.request.view_is
-          (subst (λ (b : List ℕ). IsShown c.in-Some.head b c.request.inside.moment (room_in store) c.args.reply c.present.new.response) c.as_slice-body.ensures
+      presented c.in-Some.head told head c.in_ok-told.ensures place store.available
+          (subst (λ (s : Server). IsShown c.in-Some.head c.args.request.now.body c.args.request.now.moment (room_of s place store.available) told c.present.new.response) c.in_ok-store.ensures
+          (subst (λ (q : RequestView). IsShown c.in-Some.head q.body q.moment (room_in store) told c.present.new.response) c.request.view_is
+          (subst (λ (b : List ℕ). IsShown c.in-Some.head b c.request.inside.moment (room_in store) told c.present.new.response) c.as_slice-body.ensures
           c.in_ok-present.ensures))),
       λ left.
           subst (λ (status : ℕ). Leaves c.args.request.now.head status) (c.as_u16.ensures.value ∙ ap (λ (r : Reply). r.status) c.reply.view_is)
