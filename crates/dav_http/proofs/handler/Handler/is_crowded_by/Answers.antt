@@ -8,7 +8,7 @@ returns-in-Ok c =
     IfOk-weaker c.is_crowded_at.result _ _
     (λ is decides.
     crowded_at c.args.self.now.server c.args.head.now c.args.body.now c.requires c.prefix.result.now c.target.result.now
-    (c.prefix.ensures ∙ ap (λ h. h.server.settings.prefix) c.self.view_is) c.target.ensures c.in-Ok.path.now c.in-Ok.ensures.path is decides)
+    (c.prefix.ensures ∙ ap (λ h. h.server.settings.prefix) c.self.view_is) c.target.ensures c.in-Ok.path c.in-Ok.ensures.path is decides)
     c.is_crowded_at.ensures
 
 pub returns-in-Err : goal.returns-in-Err
