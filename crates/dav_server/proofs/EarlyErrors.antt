@@ -1,5 +1,5 @@
 -- A request that is answered with an error that only comes before a change leaves the world and the list of locks.
-use Rattle.std.proofs.Common.{◌≡◌, ◌≤◌, ◌⊎◌, inl, inr, ℕ, ◌||◌, Bool, true, false, true≢false, not, All, Result, Ok, Err, refl, sym, ap, subst, ◌∙◌}
+use Rattle.std.proofs.Common.{◌≡◌, ◌≢◌, ◌≤◌, ◌⊎◌, inl, inr, ℕ, ◌||◌, Bool, true, false, true≢false, not, All, Result, Ok, Err, refl, sym, ap, subst, ◌∙◌}
 use Rattle.std.proofs.lemmas.Bool.{eq-eqb}
 use Rattle.dav_core.specs.declared.errors.DavError.{DavError}
 use Rattle.dav_core.specs.declared.method.DavMethod.{DavMethod}
@@ -29,7 +29,7 @@ use Rattle.dav_server.specs.Head.{Request, IsHead}
 use Rattle.dav_server.specs.Leaving.{IsWriteRequest, IsFileError, is_early_status, may_come_late, IsEarlyError, EarlyErrorsLeave}
 use Rattle.dav_server.specs.Machine.{Settings, Exchange, caller, PlanOf, gets, heads, puts, patches, makes, deletes, copies, moves, offers, finds_properties, sets_properties, locks, releases, MeansOf, not_allowed, no_path, no_body, method, Means, no_head, no_method, known, steps}
 use Rattle.dav_server.specs.Method.{GivesServed}
-use Rattle.dav_server.proofs.EarlyStatuses.{late_fs, late_409, put_succeeds, mkcol_succeeds, delete_late, copymove_late, proppatch_succeeds, lock_succeeds, unlock_succeeds}
+use Rattle.dav_server.proofs.EarlyStatuses.{Late, late_fs, late_409, put_succeeds, mkcol_succeeds, delete_late, copymove_late, proppatch_succeeds, lock_succeeds, unlock_succeeds}
 use Rattle.dav_server.proofs.ErrorLemmas.{errors_leave}
 use Rattle.dav_server.proofs.GetWorld.{get_is_reading}
 use Rattle.dav_server.proofs.MeansWorld.{target_storable, asks_one}

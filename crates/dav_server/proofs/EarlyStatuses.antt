@@ -1,5 +1,5 @@
 -- Statuses of successes, and of what was done in part: none of them is that of an error that only comes early.
-use Rattle.std.proofs.Common.{◌≡◌, ◌≤◌, ℕ, Bool, true, false, true≢false, not, if◌then◌else◌, List, Option, Some, None, Result, Ok, Err, arith}
+use Rattle.std.proofs.Common.{◌≡◌, ◌≢◌, ◌≤◌, ℕ, Bool, true, false, true≢false, not, if◌then◌else◌, List, Option, Some, None, Result, Ok, Err, arith}
 use Rattle.std.specs.Bool.{⊤}
 use Rattle.dav_core.specs.declared.errors.FsError.{FsError}
 use Rattle.dav_core.specs.declared.errors.FsError.TheVariants as fs

@@ -1,5 +1,5 @@
 -- What a PUT or PATCH ends in once its file is open: 404, 413 or 500, where the store refuses nothing but by the rules of its calls.
-use Rattle.std.proofs.Common.{◌≡◌, ◌≤◌, ◌⊎◌, inl, inr, ℕ, ◌+◌, ◌==◌, ◌||◌, Bool, true, false, true≢false, not, if◌then◌else◌, length, List, [], All, Option, Some, None, Result, Ok, Err, refl, sym, ap, subst, ◌∙◌}
+use Rattle.std.proofs.Common.{◌≡◌, ◌≢◌, ◌≤◌, ◌⊎◌, inl, inr, ℕ, ◌+◌, ◌==◌, ◌||◌, Bool, true, false, true≢false, not, if◌then◌else◌, length, List, [], All, Option, Some, None, Result, Ok, Err, refl, sym, ap, subst, ◌∙◌}
 use Rattle.std.proofs.lemmas.Bool.{eq-eqb}
 use Rattle.std.specs.Result.{result_ok}
 use Rattle.std.specs.declared.io.traits.SeekFrom.TheVariants.{Start}
@@ -21,7 +21,7 @@ use Rattle.dav_core.proofs.Theorems.{opened_stands}
 use Rattle.dav_engine.specs.declared.methods.put.headers.Writing.{Writing}
 use Rattle.dav_engine.specs.Caller.{Caller}
 use Rattle.dav_engine.specs.Method.{MethodPlan, then as followed_by, ◌>>=◌, gives, fails, answer_of, ask_for}
-use Rattle.dav_engine.specs.Plan.{Locks, Ran, ran_done, ran_ask, ran_look, ran_keep}
+use Rattle.dav_engine.specs.Plan.{Locks, Done, Ran, ran_done, ran_ask, ran_look, ran_keep}
 use Rattle.dav_engine.specs.Put.{PutHeaders, put_opening, sought, written, stored, store, put_allowed, put_body}
 use Rattle.dav_engine.specs.Reply.{Reply, reply_to}
 use Rattle.dav_engine.specs.WorldLaws.{reads_done}
