@@ -88,17 +88,17 @@ IsNoneInWay who ls places =
     (place : Place) → Contains places place → is_free_for place.deep who (names place.path) ls ≡ true
 
 -- the condition that isn't met: a LOCK conflicts with a lock that is there, all else needs its token (RFC 4918, section 16)
-abbrev pub condition : DavMethod → List ℕ
-condition LockMethod = codes "D:no-conflicting-lock"
-condition _ = codes "D:lock-token-submitted"
+abbrev pub precondition : DavMethod → List ℕ
+precondition LockMethod = codes "D:no-conflicting-lock"
+precondition _ = codes "D:lock-token-submitted"
 
-abbrev pub condition_name : DavMethod → List ℕ
-condition_name LockMethod = codes "no-conflicting-lock"
-condition_name _ = codes "lock-token-submitted"
+abbrev pub precondition_name : DavMethod → List ℕ
+precondition_name LockMethod = codes "no-conflicting-lock"
+precondition_name _ = codes "lock-token-submitted"
 
 -- the error: the condition with the address that the lock is on
 abbrev pub locked_error : DavMethod → Lock → ElementTree
-locked_error m l = declares_dav (dav_element (codes "error") (dav_element (condition_name m) (href l.path ∷ []) ∷ []))
+locked_error m l = declares_dav (dav_element (codes "error") (dav_element (precondition_name m) (href l.path ∷ []) ∷ []))
 
 -- a reply with this element tree, and its type, besides what it was
 pub record IsWithTree (own : Reply) (tree : ElementTree) (told : Reply) : Type 0 where

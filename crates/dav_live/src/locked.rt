@@ -166,8 +166,8 @@ fn holding(alloc: Global, name: &str, child: Result<Element, NoMemory>) -> Resul
 }
 
 // The name of the condition that a request with this method doesn't meet.
-fn condition(method: DavMethod) -> &'static str
-    ensures { result.now ≡ spec.condition method }
+fn precondition(method: DavMethod) -> &'static str
+    ensures { result.now ≡ spec.precondition method }
 {
     match method {
         DavMethod::Lock => "D:no-conflicting-lock",
@@ -180,7 +180,7 @@ fn locked_error(alloc: Global, method: DavMethod, lock: &DavLock) -> Result<Elem
     ensures { IfOk result (λ e. e ≡ spec.locked_error method lock.now) }
 {
     let root = href(alloc, &lock.path);
-    let child = holding(alloc, condition(method), root)?;
+    let child = holding(alloc, precondition(method), root)?;
     let mut element = Element::new2(alloc, "D:error")?;
     element.ns("D", "DAV:")?;
     element.push_element(child)?;
