@@ -7,9 +7,9 @@ use Rattle.dav_core.specs.Path.{Path, is_at_or_under, path_cmp}
 use Rattle.dav_core.specs.World.{Nodes}
 use Rattle.dav_store.specs.declared.memfs.used.Amount.{Amount}
 use Rattle.dav_store.specs.Subtrees.{under}
-use Rattle.dav_store.specs.Used.{amount_at, len_of}
+use Rattle.dav_store.specs.Used.{amount_at, len_of, size_of}
 use Rattle.dav_limits.specs.Parts.{under_where}
-use Rattle.dav_limits.proofs.SumLemmas.{len_parts, same_len, same_sum, size_of, sum_parts}
+use Rattle.dav_limits.proofs.SumLemmas.{len_parts, same_len, same_sum, sum_parts}
 
 second_holds : (a b : Bool) → (a && b) ≡ true → b ≡ true
 second_holds true b is = is

@@ -1,6 +1,8 @@
 -- A request leaves how much is where it may change nothing.
-use Rattle.std.proofs.Common.{◌≡◌, ◌≤◌, ℕ, Bool, true, not, min, List, length, option_map, Option, Some, None, refl, sym, ap, subst, ◌∙◌, arith}
+use Rattle.std.proofs.Common.{◌+◌, ◌≡◌, ◌≤◌, ℕ, Bool, true, not, min, List, length, option_map, Option, Some, None, refl, sym, ap, subst, ◌∙◌, arith}
 use Rattle.std.specs.FinMap.{find}
+use Rattle.dav_store.specs.Sizes.{properties_len}
+use Rattle.dav_store.specs.Used.{size_of}
 use Rattle.dav_core.specs.Locks.{Lock}
 use Rattle.dav_core.specs.Path.{Path, path_cmp}
 use Rattle.dav_core.specs.World.{IsWorld, Node, World, bytes_of, last_moment, node_at}
@@ -18,16 +20,19 @@ use Rattle.dav_confined.proofs.StepsConfined.{steps_leave_others}
 use Rattle.dav_http.specs.Steps.{IsStepFor}
 use Rattle.dav_limits.specs.Parts.{may_change}
 use Rattle.dav_limits.specs.Watches.{IsReading}
-use Rattle.dav_limits.proofs.SumLemmas.{size_of}
 
-content_size : (o : Option Node) → option_map size_of o ≡ option_map (λ (c : Content). length (bytes_of c.0)) (option_map content_of o)
+-- how many bytes a content has
+abbrev sized : Content → ℕ
+sized c = length (bytes_of c.0) + properties_len c.1
+
+content_size : (o : Option Node) → option_map size_of o ≡ option_map sized (option_map content_of o)
 content_size None = refl
 content_size (Some n) = refl
 
 -- what has the same content has the same size
 pub alike : (covered : Path → Bool) (w v : World) → Spared covered w v → (q : Path) → covered q ≡ true → option_map size_of (find path_cmp q w.nodes) ≡ option_map size_of (find path_cmp q v.nodes)
 alike covered w v spared q is =
-    content_size (node_at w q) ∙ ap (option_map (λ (c : Content). length (bytes_of c.0))) (spared.same q is) ∙ sym (content_size (node_at v q))
+    content_size (node_at w q) ∙ ap (option_map sized) (spared.same q is) ∙ sym (content_size (node_at v q))
 
 off : (s : Server) (head : List ℕ) (asked : Option AskedView) → IsReading s head asked → (x : Exchange) → x.head ≡ head → KeepsOff (λ q. not (may_change asked q)) s.settings x
 off s head None reading x here = unread_keeps_off (λ q. not (may_change None q)) s.settings x (reading s.settings x refl here)
