@@ -1,3 +1,5 @@
+mod WordsLemmas
+mod LockedLemmas
 mod MachineLemmas
 mod TokenLemmas
 mod StreamLemmas

@@ -1,5 +1,5 @@
 -- What the answer of a machine is, by its parts.
-use Rattle.std.proofs.Common.{Bool, IfOk, OnOk, Result, Ok, Err, true, false, not, true≢false, codes, ◌≢◌, ◌≡◌, ◌⊎◌, inl, inr, ℕ, List, Option, Some, None, ap, refl, length, subst, sym, ◌∙◌}
+use Rattle.std.proofs.Common.{arith, Bool, IfOk, OnOk, Result, Ok, Err, true, false, not, true≢false, codes, ◌≢◌, ◌≡◌, ◌⊎◌, inl, inr, ℕ, List, Option, Some, None, ap, refl, length, subst, sym, ◌∙◌}
 use Rattle.std.specs.Bool.{Decides}
 use Rattle.http_server.specs.declared.response.Response.{Response}
 use Rattle.dav_core.specs.declared.method.DavMethod.TheVariants.{Get, Head, PropFind}
@@ -54,7 +54,7 @@ module _ (old mid : Server) (q : RequestView) (head : List ℕ) (same : head ≡
 
 -- a listing tells of no lock that is in the way
 listing_told : (locks : Locks) (prefix head : List ℕ) (principal : Option (List ℕ)) (r : Reply) → r.status ≡ 207 → IsTold locks prefix head principal r r
-listing_told locks prefix head principal r listed = as_it_was (λ bare. let wrong : 207 ≡ 423 = sym listed ∙ bare.0 in cc) refl
+listing_told locks prefix head principal r listed = as_it_was (λ bare. let wrong : 207 ≡ 423 = sym listed ∙ bare.0 in omega (arith, wrong)) refl
 
 -- a PROPFIND leaves the server
 pub finding_leaves : (head : List ℕ) (r : Request) → IsHead head r → r.method ≡ codes "PROPFIND" → (status : ℕ) → Leaves head status

@@ -1,5 +1,6 @@
 -- What is told to a request that a lock keeps out (RFC 4918, sections 11.3 and 16).
-use Rattle.std.specs.Prelude.{◌≡◌, ◌∷◌, ◌++◌, ℕ, Bool, true, false, List, [], Contains, codes, Option, Some, None}
+use Rattle.std.specs.Prelude.{◌≡◌, ◌∷◌, ◌++◌, ℕ, Bool, true, false, not, List, [], Contains, codes, Option, Some, None}
+use Rattle.std.specs.List.{list_any}
 use Rattle.http_header.specs.FieldValue.{plain_value}
 use Rattle.http_header.specs.HeaderMap.{insert}
 use Rattle.dav_core.specs.Element.{ElementTree}
@@ -70,10 +71,19 @@ AreSubmitted head path tokens =
     ((r : Request) → IsHead head r → (c : Conditions) × AreConditions (headers_of r.fields) path.prefix (names path) c × (tokens ≡ submitted c.lists))
     × (((r : Request) → ¬ IsHead head r) → tokens ≡ [])
 
--- the tokens that count for a request with this method: a LOCK gets no lock beside those that are there by holding them
+-- whether tokens count for a request with this method: a LOCK gets no lock beside those that are there by holding them
+abbrev pub counts_tokens : DavMethod → Bool
+counts_tokens LockMethod = false
+counts_tokens _ = true
+
+-- the tokens that count, where some do
+abbrev pub AreCounted : Bool → List ℕ → PathText → List (List ℕ) → Type 0
+AreCounted true head path tokens = AreSubmitted head path tokens
+AreCounted false head path tokens = tokens ≡ []
+
+-- the tokens that count for a request with this method
 abbrev pub AreTokensOf : DavMethod → List ℕ → PathText → List (List ℕ) → Type 0
-AreTokensOf LockMethod head path tokens = tokens ≡ []
-AreTokensOf _ head path tokens = AreSubmitted head path tokens
+AreTokensOf method head path tokens = AreCounted (counts_tokens method) head path tokens
 
 -- ---- what is told
 
@@ -84,8 +94,7 @@ IsInWay who ls places l =
 
 -- none does
 abbrev pub IsNoneInWay : Requester → List Lock → List Place → Type 0
-IsNoneInWay who ls places =
-    (place : Place) → Contains places place → is_free_for place.deep who (names place.path) ls ≡ true
+IsNoneInWay who ls places = list_any (λ place. not (is_free_for place.deep who (names place.path) ls)) places ≡ false
 
 -- the condition that isn't met: a LOCK conflicts with a lock that is there, all else needs its token (RFC 4918, section 16)
 abbrev pub precondition : DavMethod → List ℕ

@@ -5,6 +5,9 @@ ghost use Rattle.std.specs.Option.{option_copied};
 ghost use Rattle.dav_core.specs.Element.{named_by, with_child};
 ghost use Rattle.dav_core.specs.Locks.{requester_of};
 ghost use Rattle.dav_engine.specs.Multistatus.{href};
+ghost use Rattle.dav_core.specs.Path.{names};
+ghost use Rattle.dav_engine.specs.Conditions.{AreConditions, Conditions as ConditionsValue, submitted};
+ghost use Rattle.dav_server.specs.Headers.{headers_of};
 ghost use Rattle.dav_live.specs.Locked as spec;
 
 use dav_confined::leave::Asked;
@@ -16,8 +19,9 @@ use dav_core::method::DavMethod;
 use dav_engine::conditions::Conditions;
 use dav_engine::reply::set_xml_type;
 use dav_engine::{DavRequest, Reply, ReplyBody};
-use dav_server::head::{headers_of, read_head};
+use dav_server::head::{RequestView, headers_of, read_head};
 use dav_store::memls::MemLs;
+use http_header::HeaderMap;
 use std::alloc::Global;
 
 /// Where a request may meet a lock: at a path, or at it and below it.
@@ -107,11 +111,45 @@ fn first_in_way<'l>(
         ls.now places.now lock.now) }
 {
     for place in places {
-        if let Err(lock) = ls.check(&place.path, principal, false, place.deep, tokens) {
-            return Some(lock);
+        match ls.check(&place.path, principal, false, place.deep, tokens) {
+            Ok(()) => {}
+            Err(lock) => return Some(lock),
         }
     }
     None
+}
+
+// The conditions that these fields state for a path.
+fn conditions_of(
+    alloc: Global,
+    method: DavMethod,
+    path: &DavPath,
+    headers: HeaderMap,
+) -> Result<Conditions, NoMemory>
+    ensures { IfOk result (λ c.
+        AreConditions headers path.now.prefix (names path.now) c) }
+{
+    let request = DavRequest {
+        method,
+        path: path.clone()?,
+        headers,
+    };
+    Conditions::decode(alloc, &request, path)
+}
+
+// The tokens that the If of a request submits, whose target is this path.
+fn tokens_by(
+    alloc: Global,
+    view: &RequestView<'_>,
+    method: DavMethod,
+    path: &DavPath,
+) -> Result<Vec<String>, NoMemory>
+    ensures { IfOk result (λ tokens. (c : ConditionsValue)
+        × AreConditions (headers_of view.now.fields) path.now.prefix (names path.now) c
+        × (map string_bytes tokens.items ≡ submitted c.lists)) }
+{
+    let conditions = conditions_of(alloc, method, path, headers_of(alloc, view)?)?;
+    conditions.tokens(alloc)
 }
 
 // The tokens that the If of a request with this head submits, whose target is this path.
@@ -124,15 +162,17 @@ fn tokens_in(
     ensures { IfOk result (λ tokens.
         spec.AreSubmitted head.now path.now (map string_bytes tokens.items)) }
 {
-    let Ok(view) = read_head(head) else {
-        return Ok(Vec::new(alloc));
-    };
-    let request = DavRequest {
-        method,
-        path: path.clone()?,
-        headers: headers_of(alloc, &view)?,
-    };
-    Conditions::decode(alloc, &request, path)?.tokens(alloc)
+    match read_head(head) {
+        Ok(view) => tokens_by(alloc, &view, method, path),
+        Err(_) => Ok(Vec::new(alloc)),
+    }
+}
+
+// Whether tokens count for a request with this method.
+fn counts_tokens(method: DavMethod) -> bool
+    ensures { result ≡ spec.counts_tokens method }
+{
+    !matches!(method, DavMethod::Lock)
 }
 
 // The tokens that count for a request with this head, of which this is asked: none where it asks for a lock of its own.
@@ -140,9 +180,10 @@ fn tokens_of(alloc: Global, head: &[u8], asked: &Asked) -> Result<Vec<String>, N
     ensures { IfOk result (λ tokens. spec.AreTokensOf asked.now.method head.now asked.now.path
         (map string_bytes tokens.items)) }
 {
-    match asked.method {
-        DavMethod::Lock => Ok(Vec::new(alloc)),
-        method => tokens_in(alloc, head, method, &asked.path),
+    if counts_tokens(asked.method) {
+        tokens_in(alloc, head, asked.method, &asked.path)
+    } else {
+        Ok(Vec::new(alloc))
     }
 }
 

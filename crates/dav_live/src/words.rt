@@ -1,9 +1,8 @@
 //! What a response says in words that refuses, where it has no body of its own.
-ghost use Rattle.std.specs.Prelude.{◌≡◌, ◌≢◌, ◌⊎◌, ◌↔◌, ◌++◌, [], IsTrue, OnOk, codes};
-ghost use Rattle.std.specs.Bool.{Decides};
-ghost use Rattle.http_server.specs.Response.{fields, fields_of};
-ghost use Rattle.dav_wire.specs.Explained.{explanation, text_fields};
-ghost use Rattle.dav_live.specs.Words.{HasContentField, IsExplained, IsOfContent};
+ghost use Rattle.std.specs.Prelude.{◌≡◌, ◌∷◌, ◌++◌, [], OnOk, codes};
+ghost use Rattle.http_server.specs.Response.{fields_of};
+ghost use Rattle.dav_wire.specs.Explained.{text_fields};
+ghost use Rattle.dav_live.specs.Words.{IsExplained, has_content_field, is_of_content};
 
 use bytes::Bytes;
 use dav_wire::explanation;
@@ -14,14 +13,14 @@ use std::alloc::AllocError;
 
 // Whether a field tells of the content (RFC 9110, sections 8.3 and 8.6).
 fn is_of_content(name: &str) -> bool
-    ensures { Decides result (IsOfContent name.now) }
+    ensures { result ≡ is_of_content name.now }
 {
     name == "content-length" || name == "content-type"
 }
 
 // Whether one of these fields tells of the content.
 fn has_content_field(headers: &[(HeaderName, HeaderValue)]) -> bool
-    ensures { Decides result (HasContentField (fields headers.now)) }
+    ensures { result ≡ has_content_field headers.now }
 {
     for header in headers {
         if is_of_content(header.0.as_str()) {
@@ -29,6 +28,19 @@ fn has_content_field(headers: &[(HeaderName, HeaderValue)]) -> bool
         }
     }
     false
+}
+
+// Adds a line of text as the body of a response.
+fn fill_text(text: &'static [u8], response: &mut Response) -> Result<(), AllocError>
+    requires { response.old.body.items ≡ [] }
+    ensures fields { OnOk result (fields_of response.new ≡ fields_of response.old
+        ++ (codes "content-type", codes "text/plain; charset=utf-8") ∷ []) }
+    ensures status { OnOk result (response.new.status ≡ response.old.status) }
+    ensures body { OnOk result (response.new.body.items ≡ text.now) }
+{
+    response.body.push(Bytes::from_static(text))?;
+    let kind = HeaderValue::from_static("text/plain; charset=utf-8");
+    response.add_header(CONTENT_TYPE, kind)
 }
 
 // Fills the body of a response that has none with these words, if there are any.
@@ -42,9 +54,7 @@ fn fill_words(words: &'static [u8], response: &mut Response) -> Result<(), Alloc
     if words.is_empty() {
         return Ok(());
     }
-    response.body.push(Bytes::from_static(words))?;
-    let text = HeaderValue::from_static("text/plain; charset=utf-8");
-    response.add_header(CONTENT_TYPE, text)
+    fill_text(words, response)
 }
 
 /// Adds what the status of a response means, in words, where there are words for it and the response tells of no content of its own.

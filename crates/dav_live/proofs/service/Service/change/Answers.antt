@@ -19,7 +19,7 @@ returns-in-Ok-Some-clause-goes_on g c =
     answered_goes_on g.H.Handles.answers g.J.Keeps.is_clean g.J.Keeps.kept (kept_of c.args.self.now) c.answer.new.self c.args.request.now c.answer.new.response
     c.in-Ok-Some.field-0-0 is c.see_record.ensures c.requires.number c.in-Ok-Some.ensures.stays c.answer.ensures.clean c.in-Ok-Some.ensures.kept
 
-pub returns-in-Ok-None-clause-goes_on : goal.returns-in-Ok-None-clause-goes_on
-returns-in-Ok-None-clause-goes_on g c =
+pub returns-in_ok-fill_full-in-Ok-None-clause-goes_on : goal.returns-in_ok-fill_full-in-Ok-None-clause-goes_on
+returns-in_ok-fill_full-in-Ok-None-clause-goes_on g c =
     let held : held_by c.answer.new.self ≡ held_of c.args.self.now = search rules in
     goes_on_held g.H.Handles.answers g.J.Keeps.is_clean g.J.Keeps.kept (kept_of c.args.self.now) c.answer.new.self held c.in-Ok-None.ensures.stays c.answer.ensures.clean c.in-Ok-None.ensures.kept
