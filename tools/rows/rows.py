@@ -1,4 +1,5 @@
-"""Rows of scripts, read from files of text: crates/dav_run/rows/*.rows, */*.rows and tools/oracle.rows.
+"""Rows of scripts, read from files of text: crates/dav_run/rows/*.rows, */*.rows, and by their names tools/oracle/oracle.rows and
+tools/rows/before.rows.
 
 usage: no program; `files()` are the files right in crates/dav_run/rows, `all_files()` those in its folders too, `rows_of(FILE)` the rows of one
 
