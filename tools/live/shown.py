@@ -109,10 +109,24 @@ def would_swell(body):
 
 
 def means_nothing(head):
-    """Whether a condition is there and can't be read: an If (RFC 4918, 10.4), an If-Match or an If-None-Match (RFC 9110, 13.1)."""
+    """Whether a condition is there and can't be read: an If (RFC 4918, 10.4), an If-Match or an If-None-Match (RFC 9110, 13.1); or a Content-Range
+    that names no bytes (RFC 9110, 14.5)."""
+    if names_no_bytes(head.values(b"content-range")):
+        return True
     if head.has(b"if") and oracle.if_of(head) is None:
         return True
     return any(head.has(name) and oracle.tags_of(head, name) is None for name in (b"if-match", b"if-none-match"))
+
+
+def names_no_bytes(values):
+    """Whether a Content-Range is there that can't be read, or names no bytes that a file can have (RFC 9110, 14.4)."""
+    if not values:
+        return False
+    found = re.fullmatch(rb"bytes ([0-9]+)-([0-9]+)/([0-9]+|\*)", values[0]) if len(values) == 1 else None
+    if not found or any(part != b"*" and oracle.number(part) is None for part in found.groups()):
+        return True
+    first, last, length = found.groups()
+    return int(last) < int(first) or length != b"*" and int(length) <= int(last)
 
 
 def is_stale(head, server, moment):
@@ -167,11 +181,13 @@ def near_year(digits, moment):
 
 
 def in_words(method, status, fields, body):
-    """Status, fields and body of a response, with the words of its status where it has no body of its own; those to HEAD stay."""
-    if body or status not in REFUSALS or method == b"HEAD":
+    """Status, fields and body of a response, with the words of its status where it has no body of its own; one to HEAD that tells of a content
+    stays, and else has what a GET would have, but for the body."""
+    is_head = method == b"HEAD"
+    if body or status not in REFUSALS or is_head and fields.keys() & {"content-type", "content-length"}:
         return [status, fields, body]
     text = REFUSALS[status]
-    return [status, {**fields, "content-type": "text/plain; charset=utf-8", "content-length": str(len(text))}, text.hex()]
+    return [status, {**fields, "content-type": "text/plain; charset=utf-8", "content-length": str(len(text))}, "" if is_head else text.hex()]
 
 
 def conflicting(request, head, path, server):
@@ -217,7 +233,8 @@ def shown(request, reply, moment, server):
         return shown_file(head, reply, moment)
     if reply.status == 423 and not reply.body:
         error = locked(request, server)
-        return oracle.Reply(423, {**reply.headers, "content-type": oracle.XML}, error) if error else reply
+        fields = {name: value for name, value in reply.headers.items() if name != "content-length"}
+        return oracle.Reply(423, {**fields, "content-type": oracle.XML}, error) if error else reply
     if head.method == b"PROPFIND" and reply.status == 501:
         return oracle.Reply(403, reply.headers, reply.body)
     if head.method == b"PROPFIND" and reply.status == 207:
