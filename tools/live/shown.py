@@ -225,7 +225,8 @@ def locked(request, server):
 
 
 def shown(request, reply, moment, server):
-    """What is sent of the machine's reply to a request that came at a moment. How many bytes can still be stored isn't known here: `?`."""
+    """What is sent of the machine's reply to a request that came at a moment. How many bytes are used, and can still be stored,
+    isn't known here: `?`."""
     head = read(request.head)
     if head is None:
         return reply
@@ -239,8 +240,8 @@ def shown(request, reply, moment, server):
         return oracle.Reply(403, reply.headers, reply.body)
     if head.method == b"PROPFIND" and reply.status == 207:
         asked, prefers = asked_names(request.body), prefers_minimal(head.values(b"prefer"))
-        used = sum(len(node.data) for node in server.store.nodes.values())
-        room = [(name, value) for name, value in (("quota-available-bytes", "?"), ("quota-used-bytes", str(used))) if (oracle.DAV, name) in asked]
+        # (which prefixes clients gave their properties isn't known here: how many bytes are used `quota` sees)
+        room = [(name, "?") for name in ("quota-available-bytes", "quota-used-bytes") if (oracle.DAV, name) in asked]
         is_minimal = prefers or is_brief(head.values(b"brief"))
         headers = {**reply.headers, "preference-applied": "return=minimal"} if prefers else reply.headers
         return oracle.Reply(207, headers, shown_listing(reply.body, asked, room, is_minimal))
