@@ -20,30 +20,30 @@ clock 5 ; OPTIONS * -> 200 follows 0
 clock 5 ; PROPFIND /a -> 200 follows 0
 clock 5 ; ^GET /a -> 200 follows 0
 clock 5 ; ^^PROPFIND /a -> 200 follows 0
-PUT /a -> Unavailable 503 retry 1
-^PUT /a -> Unavailable 503 retry 1
-DELETE /a -> Unavailable 503 retry 1
-MKCOL /a -> Unavailable 503 retry 1
-COPY /a -> Unavailable 503 retry 1
-MOVE /a -> Unavailable 503 retry 1
-PROPPATCH /a -> Unavailable 503 retry 1
-LOCK /a -> Unavailable 503 retry 1
-UNLOCK /a -> Unavailable 503 retry 1
-POST /a -> Unavailable 503 retry 1
-PATCH /a -> Unavailable 503 retry 1
-get /a -> Unavailable 503 retry 1
-GETS /a -> Unavailable 503 retry 1
-PUT /no -> Forbidden 503 retry 1
+PUT /a -> Unavailable 503 retry 1 content-type text/plain; charset=utf-8
+^PUT /a -> Unavailable 503 retry 1 content-type text/plain; charset=utf-8
+DELETE /a -> Unavailable 503 retry 1 content-type text/plain; charset=utf-8
+MKCOL /a -> Unavailable 503 retry 1 content-type text/plain; charset=utf-8
+COPY /a -> Unavailable 503 retry 1 content-type text/plain; charset=utf-8
+MOVE /a -> Unavailable 503 retry 1 content-type text/plain; charset=utf-8
+PROPPATCH /a -> Unavailable 503 retry 1 content-type text/plain; charset=utf-8
+LOCK /a -> Unavailable 503 retry 1 content-type text/plain; charset=utf-8
+UNLOCK /a -> Unavailable 503 retry 1 content-type text/plain; charset=utf-8
+POST /a -> Unavailable 503 retry 1 content-type text/plain; charset=utf-8
+PATCH /a -> Unavailable 503 retry 1 content-type text/plain; charset=utf-8
+get /a -> Unavailable 503 retry 1 content-type text/plain; charset=utf-8
+GETS /a -> Unavailable 503 retry 1 content-type text/plain; charset=utf-8
+PUT /no -> Forbidden 503 retry 1 content-type text/plain; charset=utf-8
 GET /no -> Forbidden 200 follows 0
 clock 5 ; anew ; clock 9 ; GET /a -> 200 follows 4
 clock 5 ; replay ; clock 9 ; GET /a -> 200 follows 0
 clock 5 ; anew ; clock 9 ; replay ; GET /a -> 200 follows 0
 clock 5 ; anew ; clock 9 ; replay ; clock 12 ; GET /a -> 200 follows 0
 clock 5 ; anew ; clock 9 ; anew ; clock 12 ; GET /a -> 200 follows 7
-clock 5 ; anew ; clock 9 ; PUT /a -> Unavailable 503 retry 1
+clock 5 ; anew ; clock 9 ; PUT /a -> Unavailable 503 retry 1 content-type text/plain; charset=utf-8
 commit -> kept
 tick ; commit -> kept
-PUT /a ; commit -> Unavailable 503 retry 1, kept
+PUT /a ; commit -> Unavailable 503 retry 1 content-type text/plain; charset=utf-8, kept
 left ; commit -> Disk
 left ; GET /a ; commit -> 200 follows 0, Disk
 ";

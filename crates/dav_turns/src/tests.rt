@@ -33,7 +33,7 @@ ff010000 05 00000000 0001000000000000 0000010000000000 -> 511 5 256 65536
 ";
 
 /// Reports are kind, slot, seconds and bytes; `8@1008` are the seconds 8 and the date 1008, which is
-/// 8 too without. `^` is CRLF. The keeper says what it was told, and
+/// 8 too without. `^` is CRLF and `$` a line feed. The keeper says what it was told, and
 /// the orders are slot, what is next, and bytes; after `!` it is why the turn failed, and nothing
 /// was written.
 const TURNS: &str = "\
@@ -66,20 +66,20 @@ opened 2 5 a ; got 2 6 PUT /x HTTP/1.1^Host: h^Content-Length: 20^^0123456789012
 opened 2 5 a ; got 2 6 PUT /x HTTP/1.1^Host: h^Content-Length: 20^^01234567890123456789GET /y HTTP/1.1^Host: h^^ ; sent 2 7 -> at 5, at 6, from a, PUT /x, at 7, from a, GET /y, commit -> 2 read  ; 2 tell HTTP/1.1 200 OK^content-length: 27^^PUT /x|01234567890123456789 ; 2 read HTTP/1.1 200 OK^content-length: 7^^GET /y|
 
 # a request that isn't taken
-opened 2 5 a ; got 2 6 PUT /no HTTP/1.1^Host: h^Content-Length: 20^^ -> at 5, at 6, from a, no PUT /no, commit -> 2 read  ; 2 close HTTP/1.1 403 Forbidden^connection: close^content-length: 0^^
-opened 2 5 a ; got 2 6 PUT /x HTTP/1.1^Host: h^Content-Length: 2^^hiPUT /no HTTP/1.1^Host: h^^GET /y HTTP/1.1^Host: h^^ -> at 5, at 6, from a, PUT /x, no PUT /no, commit -> 2 read  ; 2 tell HTTP/1.1 200 OK^content-length: 9^^PUT /x|hiHTTP/1.1 403 Forbidden^connection: close^content-length: 0^^
+opened 2 5 a ; got 2 6 PUT /no HTTP/1.1^Host: h^Content-Length: 20^^ ; sent 2 7 -> at 5, at 6, from a, no PUT /no, at 7, from a, commit -> 2 read  ; 2 tell HTTP/1.1 403 Forbidden^content-type: text/plain; charset=utf-8^connection: close^content-length: 40^^This isn't allowed here, or not to you.$ ; 2 close 
+opened 2 5 a ; got 2 6 PUT /x HTTP/1.1^Host: h^Content-Length: 2^^hiPUT /no HTTP/1.1^Host: h^^GET /y HTTP/1.1^Host: h^^ -> at 5, at 6, from a, PUT /x, no PUT /no, commit -> 2 read  ; 2 tell HTTP/1.1 200 OK^content-length: 9^^PUT /x|hiHTTP/1.1 403 Forbidden^content-type: text/plain; charset=utf-8^connection: close^content-length: 40^^This isn't allowed here, or not to you.$
 
 # bodies that wait: at most 48 bytes of all (RFC 9110, sections 10.2.3 and 15.6.4)
 opened 2 5 a ; opened 3 5 b ; got 2 6 PUT /x HTTP/1.1^Host: h^Content-Length: 30^^ ; got 3 6 PUT /y HTTP/1.1^Host: h^Content-Length: 18^^ ; got 2 7 012345678901234567890123456789 ; got 3 7 012345678901234567 -> at 5, at 5, at 6, from a, at 6, from b, at 7, from a, PUT /x, at 7, from b, PUT /y, commit -> 2 read  ; 3 read  ; 2 body  ; 3 body  ; 2 tell HTTP/1.1 200 OK^content-length: 37^^PUT /x|012345678901234567890123456789 ; 3 read HTTP/1.1 200 OK^content-length: 25^^PUT /y|012345678901234567
-opened 2 5 a ; opened 3 5 b ; got 2 6 PUT /x HTTP/1.1^Host: h^Content-Length: 30^^ ; got 3 6 PUT /y HTTP/1.1^Host: h^Content-Length: 19^^ -> at 5, at 5, at 6, from a, at 6, from b, commit -> 2 read  ; 3 read  ; 2 body  ; 3 tell HTTP/1.1 503 Service Unavailable^retry-after: 1^connection: close^content-length: 0^^
-opened 2 5 a ; opened 3 5 b ; got 2 6 PUT /x HTTP/1.1^Host: h^Content-Length: 30^^ ; got 3 6 PUT /y HTTP/1.1^Host: h^Expect: 100-continue^Content-Length: 19^^ -> at 5, at 5, at 6, from a, at 6, from b, commit -> 2 read  ; 3 read  ; 2 body  ; 3 tell HTTP/1.1 503 Service Unavailable^retry-after: 1^connection: close^content-length: 0^^
+opened 2 5 a ; opened 3 5 b ; got 2 6 PUT /x HTTP/1.1^Host: h^Content-Length: 30^^ ; got 3 6 PUT /y HTTP/1.1^Host: h^Content-Length: 19^^ -> at 5, at 5, at 6, from a, at 6, from b, commit -> 2 read  ; 3 read  ; 2 body  ; 3 tell HTTP/1.1 503 Service Unavailable^retry-after: 1^content-type: text/plain; charset=utf-8^connection: close^content-length: 41^^This can't be taken now: try again soon.$
+opened 2 5 a ; opened 3 5 b ; got 2 6 PUT /x HTTP/1.1^Host: h^Content-Length: 30^^ ; got 3 6 PUT /y HTTP/1.1^Host: h^Expect: 100-continue^Content-Length: 19^^ -> at 5, at 5, at 6, from a, at 6, from b, commit -> 2 read  ; 3 read  ; 2 body  ; 3 tell HTTP/1.1 503 Service Unavailable^retry-after: 1^content-type: text/plain; charset=utf-8^connection: close^content-length: 41^^This can't be taken now: try again soon.$
 opened 2 5 a ; opened 3 5 b ; got 2 6 PUT /x HTTP/1.1^Host: h^Content-Length: 30^^ ; got 3 6 PUT /y HTTP/1.1^Host: h^Content-Length: 18^^ ; opened 4 6 c ; got 4 6 GET /z HTTP/1.1^Host: h^^ -> at 5, at 5, at 6, from a, at 6, from b, at 6, at 6, from c, GET /z, commit -> 2 read  ; 3 read  ; 2 body  ; 3 body  ; 4 read  ; 4 read HTTP/1.1 200 OK^content-length: 7^^GET /z|
 opened 2 5 a ; opened 3 5 b ; got 2 6 PUT /x HTTP/1.1^Host: h^Content-Length: 20^^01234567890123456789 ; got 3 6 PUT /y HTTP/1.1^Host: h^Content-Length: 32^^ -> at 5, at 5, at 6, from a, PUT /x, at 6, from b, commit -> 2 read  ; 3 read  ; 2 tell HTTP/1.1 200 OK^content-length: 27^^PUT /x|01234567890123456789 ; 3 body 
 opened 2 5 a ; got 2 6 PUT /x HTTP/1.1^Host: h^Content-Length: 30^^ ; gone 2 6 ; opened 3 5 b ; got 3 6 PUT /y HTTP/1.1^Host: h^Content-Length: 32^^ -> at 5, at 6, from a, at 6, at 5, at 6, from b, commit -> 2 read  ; 2 body  ; 3 read  ; 3 body 
-opened 2 5 a ; got 2 6 PUT /no HTTP/1.1^Host: h^Content-Length: 30^^ ; opened 3 5 b ; got 3 6 PUT /y HTTP/1.1^Host: h^Content-Length: 32^^ -> at 5, at 6, from a, no PUT /no, at 5, at 6, from b, commit -> 2 read  ; 2 close HTTP/1.1 403 Forbidden^connection: close^content-length: 0^^ ; 3 read  ; 3 body 
+opened 2 5 a ; got 2 6 PUT /no HTTP/1.1^Host: h^Content-Length: 30^^ ; sent 2 6 ; opened 3 5 b ; got 3 6 PUT /y HTTP/1.1^Host: h^Content-Length: 32^^ -> at 5, at 6, from a, no PUT /no, at 6, from a, at 5, at 6, from b, commit -> 2 read  ; 2 tell HTTP/1.1 403 Forbidden^content-type: text/plain; charset=utf-8^connection: close^content-length: 40^^This isn't allowed here, or not to you.$ ; 2 close  ; 3 read  ; 3 body 
 opened 2 5 a ; opened 3 5 b ; got 2 6 PUT /x HTTP/1.1^Host: h^Content-Length: 30^^ ; got 3 6 PUT /y HTTP/1.1^Host: h^Transfer-Encoding: chunked^^a^0123456789^ ; got 3 7 8^01234567^0^^ -> at 5, at 5, at 6, from a, at 6, from b, at 7, from b, PUT /y, commit -> 2 read  ; 3 read  ; 2 body  ; 3 body  ; 3 read HTTP/1.1 200 OK^content-length: 25^^PUT /y|012345678901234567
-opened 2 5 a ; opened 3 5 b ; got 2 6 PUT /x HTTP/1.1^Host: h^Content-Length: 30^^ ; got 3 6 PUT /y HTTP/1.1^Host: h^Transfer-Encoding: chunked^^a^0123456789^ ; got 3 7 9^012345678^0^^ -> at 5, at 5, at 6, from a, at 6, from b, at 7, from b, commit -> 2 read  ; 3 read  ; 2 body  ; 3 body  ; 3 tell HTTP/1.1 503 Service Unavailable^retry-after: 1^connection: close^content-length: 0^^
-opened 2 5 a ; opened 3 5 b ; got 3 6 PUT /y HTTP/1.1^Host: h^Transfer-Encoding: chunked^^14^01234567890123456789^ ; got 2 6 PUT /x HTTP/1.1^Host: h^Content-Length: 29^^ -> at 5, at 5, at 6, from b, at 6, from a, commit -> 2 read  ; 3 read  ; 3 body  ; 2 tell HTTP/1.1 503 Service Unavailable^retry-after: 1^connection: close^content-length: 0^^
+opened 2 5 a ; opened 3 5 b ; got 2 6 PUT /x HTTP/1.1^Host: h^Content-Length: 30^^ ; got 3 6 PUT /y HTTP/1.1^Host: h^Transfer-Encoding: chunked^^a^0123456789^ ; got 3 7 9^012345678^0^^ -> at 5, at 5, at 6, from a, at 6, from b, at 7, from b, commit -> 2 read  ; 3 read  ; 2 body  ; 3 body  ; 3 tell HTTP/1.1 503 Service Unavailable^retry-after: 1^content-type: text/plain; charset=utf-8^connection: close^content-length: 41^^This can't be taken now: try again soon.$
+opened 2 5 a ; opened 3 5 b ; got 3 6 PUT /y HTTP/1.1^Host: h^Transfer-Encoding: chunked^^14^01234567890123456789^ ; got 2 6 PUT /x HTTP/1.1^Host: h^Content-Length: 29^^ -> at 5, at 5, at 6, from b, at 6, from a, commit -> 2 read  ; 3 read  ; 3 body  ; 2 tell HTTP/1.1 503 Service Unavailable^retry-after: 1^content-type: text/plain; charset=utf-8^connection: close^content-length: 41^^This can't be taken now: try again soon.$
 
 # the end of a connection
 opened 2 5 a ; got 2 6 -> at 5, at 6, from a, commit -> 2 read  ; 2 close 
@@ -251,6 +251,8 @@ fn unescaped(alloc: Global, text: &str) -> Result<Vec<u8>, AllocError> {
     for byte in text.as_bytes() {
         if *byte == b'^' {
             out.extend_from_slice(b"\r\n")?;
+        } else if *byte == b'$' {
+            out.push(b'\n')?;
         } else {
             out.push(*byte)?;
         }

@@ -91,9 +91,7 @@ impl Answerer for Echo {
         Ok(rejection_in(line_of(head)))
     }
 
-    fn hear_refused(&mut self, head: &[u8], status: u16) {
-        let _ = (head, status);
-    }
+    fn hear_refused(&mut self, _head: &[u8], _status: u16) {}
 
     fn answer(&mut self, asked: &Asked, response: &mut Response) -> Result<(), Stop> {
         let line = line_of(asked.head.as_slice());
