@@ -5,6 +5,8 @@
 mod asserting;
 mod entries;
 pub mod laws;
+#[cfg(test)]
+mod listed;
 pub mod memfs;
 pub mod memls;
 mod names;

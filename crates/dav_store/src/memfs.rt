@@ -13,7 +13,7 @@ mod loaded;
 mod passing;
 mod saved;
 #[cfg(test)]
-mod tests;
+pub(crate) mod tests;
 mod used;
 
 use crate::entries::{self, Entries, changes, listing};

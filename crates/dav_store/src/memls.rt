@@ -14,7 +14,7 @@ mod index;
 mod kept;
 mod saved;
 #[cfg(test)]
-mod tests;
+pub(crate) mod tests;
 
 use crate::paths;
 use dav_core::davpath::DavPath;

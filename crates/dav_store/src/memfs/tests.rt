@@ -239,16 +239,16 @@ load #4 #2 #0 #0 #0 0 #0 #0 #0 #1 #2 'a' 0 #1 #1 0 #0 #0 #0 -> NotSaved
 
 // The store that rows are played on, with one open file and the entries that were listed last.
 #[derive(Drop)]
-struct Played<F: DavFileSystem> {
+pub(crate) struct Played<F: DavFileSystem> {
     fs: F,
     file: Option<F::File>,
     entries: Vec<F::Entry>,
 }
 
 // A row: the name of a call and its arguments.
-type Row<'a> = [&'a str; 4];
+pub(crate) type Row<'a> = [&'a str; 4];
 
-fn row(line: &str) -> Row<'_> {
+pub(crate) fn row(line: &str) -> Row<'_> {
     let (call, rest) = line.split_once(' ').unwrap_or((line, ""));
     let (first, rest) = rest.split_once(' ').unwrap_or((rest, ""));
     let (second, third) = rest.split_once(' ').unwrap_or((rest, ""));
@@ -256,11 +256,11 @@ fn row(line: &str) -> Row<'_> {
 }
 
 // An owned text; no row expects the error for memory.
-fn text(alloc: Global, text: &str) -> FsResult<String> {
+pub(crate) fn text(alloc: Global, text: &str) -> FsResult<String> {
     String::from_str(alloc, text).map_err(|_| FsError::InsufficientStorage)
 }
 
-fn path(alloc: Global, text: &str) -> FsResult<DavPath> {
+pub(crate) fn path(alloc: Global, text: &str) -> FsResult<DavPath> {
     DavPath::new(alloc, text).map_err(|_| FsError::PathTooLong)
 }
 
@@ -268,7 +268,7 @@ fn path(alloc: Global, text: &str) -> FsResult<DavPath> {
 const LAST_MOMENT: u64 = 253_402_300_799;
 
 // The moment of a row; 0 where it is none.
-fn moment(text: &str) -> u64
+pub(crate) fn moment(text: &str) -> u64
     ensures { result ≤ last_moment }
 {
     match text.parse::<u64>() {
@@ -277,7 +277,7 @@ fn moment(text: &str) -> u64
     }
 }
 
-fn options(words: &str) -> OpenOptions {
+pub(crate) fn options(words: &str) -> OpenOptions {
     let mut options = OpenOptions::default();
     for word in words.split(',') {
         match word {
@@ -293,7 +293,7 @@ fn options(words: &str) -> OpenOptions {
 }
 
 // The metadata of a file or folder, as text.
-fn shown(alloc: Global, found: &DavMetaData) -> FsResult<String> {
+pub(crate) fn shown(alloc: Global, found: &DavMetaData) -> FsResult<String> {
     let number = found.number.unwrap_or(u64::MAX);
     let (created, modified) = (found.created, found.modified);
     let text = if found.dir {
@@ -311,7 +311,7 @@ fn push(text: &mut String, part: &str) -> FsResult<()> {
 }
 
 // Bytes as a text: a zero byte is `\0`.
-fn readable(alloc: Global, bytes: &[u8]) -> FsResult<String> {
+pub(crate) fn readable(alloc: Global, bytes: &[u8]) -> FsResult<String> {
     let mut text = String::new(alloc);
     for byte in bytes {
         let pushed = if *byte == 0 {
@@ -326,7 +326,7 @@ fn readable(alloc: Global, bytes: &[u8]) -> FsResult<String> {
 
 impl<F: DavFileSystem> Played<F> {
     // Makes the call of a row, and returns its answer as text.
-    fn play(&mut self, alloc: Global, row: Row<'_>) -> FsResult<String> {
+    pub(crate) fn play(&mut self, alloc: Global, row: Row<'_>) -> FsResult<String> {
         match row[0] {
             "mkdir" | "rmdir" | "remove" | "rename" | "copy" => self.change(alloc, row),
             "open" | "told" | "flush" | "seek" => self.handle(alloc, row),
@@ -491,7 +491,7 @@ impl<F: DavFileSystem> Played<F> {
     }
 }
 
-fn place(from: &str, count: &str) -> SeekFrom {
+pub(crate) fn place(from: &str, count: &str) -> SeekFrom {
     match from {
         "start" => SeekFrom::Start(count.parse::<u64>().unwrap_or(0)),
         "end" => SeekFrom::End(count.parse::<i64>().unwrap_or(0)),
@@ -500,7 +500,7 @@ fn place(from: &str, count: &str) -> SeekFrom {
 }
 
 // The property that a row names, with this value; without an element where the value is empty.
-fn property(alloc: Global, name: &str, value: &str) -> FsResult<DavProp> {
+pub(crate) fn property(alloc: Global, name: &str, value: &str) -> FsResult<DavProp> {
     let (namespace, name) = match name.strip_prefix(':') {
         Some(name) => ("", name),
         None => ("urn:n", name),
@@ -514,7 +514,7 @@ fn property(alloc: Global, name: &str, value: &str) -> FsResult<DavProp> {
 }
 
 // Adds an entry of a listing.
-fn tell(alloc: Global, told: &mut String, name: &[u8], is_folder: bool) -> FsResult<()> {
+pub(crate) fn tell(alloc: Global, told: &mut String, name: &[u8], is_folder: bool) -> FsResult<()> {
     if !told.is_empty() {
         push(told, " ")?;
     }
@@ -523,7 +523,7 @@ fn tell(alloc: Global, told: &mut String, name: &[u8], is_folder: bool) -> FsRes
 }
 
 // The names of properties, with their values where they have elements.
-fn named(alloc: Global, list: &[DavProp]) -> FsResult<String> {
+pub(crate) fn named(alloc: Global, list: &[DavProp]) -> FsResult<String> {
     let mut names = String::new(alloc);
     for property in list {
         if !names.is_empty() {
@@ -539,7 +539,7 @@ fn named(alloc: Global, list: &[DavProp]) -> FsResult<String> {
 }
 
 // Whether the element of a property is the one that was found, as text.
-fn as_it_was(alloc: Global, wanted: &DavProp, found: &Element) -> FsResult<String> {
+pub(crate) fn as_it_was(alloc: Global, wanted: &DavProp, found: &Element) -> FsResult<String> {
     let is_same = wanted.xml.as_ref() == Some(found);
     text(alloc, if is_same { "as it was set" } else { "another" })
 }
@@ -552,7 +552,7 @@ fn value_of(alloc: Global, xml: &Element) -> FsResult<String> {
 }
 
 // The answer to a change of a property, as text.
-fn answered(alloc: Global, status: StatusCode, property: &DavProp) -> FsResult<String> {
+pub(crate) fn answered(alloc: Global, status: StatusCode, property: &DavProp) -> FsResult<String> {
     let xml = if property.xml.is_none() {
         "without xml"
     } else {
@@ -563,7 +563,7 @@ fn answered(alloc: Global, status: StatusCode, property: &DavProp) -> FsResult<S
 }
 
 // A new store, whose next change takes this number.
-fn begun(alloc: Global, next: u64) -> Result<Played<MemFs>, Fail> {
+pub(crate) fn begun(alloc: Global, next: u64) -> Result<Played<MemFs>, Fail> {
     Ok(Played {
         fs: MemFs::new_at(alloc, next)?,
         file: None,

@@ -79,9 +79,9 @@ check /x ben -> t8
 "##;
 
 // A row: the name of a call and its arguments.
-type Row<'a> = [&'a str; 5];
+pub(crate) type Row<'a> = [&'a str; 5];
 
-fn row(line: &str) -> Row<'_> {
+pub(crate) fn row(line: &str) -> Row<'_> {
     let (call, rest) = line.split_once(' ').unwrap_or((line, ""));
     let (first, rest) = rest.split_once(' ').unwrap_or((rest, ""));
     let (second, rest) = rest.split_once(' ').unwrap_or((rest, ""));
@@ -89,12 +89,12 @@ fn row(line: &str) -> Row<'_> {
     [call, first, second, third, fourth]
 }
 
-fn has_word(words: &str, sought: &str) -> bool {
+pub(crate) fn has_word(words: &str, sought: &str) -> bool {
     words.split(',').any(|word| word == sought)
 }
 
 // Makes the call of a row, and returns its answer as text.
-fn play(alloc: Global, ls: &mut MemLs, row: Row<'_>) -> Result<String, Fail> {
+pub(crate) fn play(alloc: Global, ls: &mut MemLs, row: Row<'_>) -> Result<String, Fail> {
     let at = DavPath::new(alloc, row[1])?;
     let done = match row[0] {
         "lock" => return lock(alloc, ls, &at, row),
@@ -111,7 +111,7 @@ fn play(alloc: Global, ls: &mut MemLs, row: Row<'_>) -> Result<String, Fail> {
 }
 
 // For how long a lock of a kind is asked.
-fn timeout_of(kind: &str) -> Option<u64>
+pub(crate) fn timeout_of(kind: &str) -> Option<u64>
     ensures { IfSome result (λ seconds. seconds < 1000) }
 {
     if has_word(kind, "timed") {
@@ -131,7 +131,7 @@ fn ended(alloc: Global, ls: &MemLs, second: &str) -> Result<String, Fail> {
 }
 
 // The answer to a request for a lock, as text.
-fn granted(alloc: Global, answer: Result<DavLock, LockRefusal>) -> Result<String, Fail> {
+pub(crate) fn granted(alloc: Global, answer: Result<DavLock, LockRefusal>) -> Result<String, Fail> {
     Ok(match answer {
         Ok(lock) => match lock.timeout_at {
             Some(second) => format!(in alloc; "ends {second}")?,
@@ -153,7 +153,7 @@ fn lock(alloc: Global, ls: &mut MemLs, at: &DavPath, row: Row<'_>) -> Result<Str
 }
 
 // For how long a lock is to last from now on.
-fn timeout_after(seconds: &str) -> Option<u64>
+pub(crate) fn timeout_after(seconds: &str) -> Option<u64>
     ensures { IfSome result (λ seconds. seconds < 1000) }
 {
     match seconds.parse::<u64>() {
@@ -163,7 +163,10 @@ fn timeout_after(seconds: &str) -> Option<u64>
 }
 
 // The answer to a refresh, as text.
-fn refreshed(alloc: Global, answer: Result<DavLock, RefreshRefusal>) -> Result<String, Fail> {
+pub(crate) fn refreshed(
+    alloc: Global,
+    answer: Result<DavLock, RefreshRefusal>,
+) -> Result<String, Fail> {
     Ok(match answer {
         Ok(lock) => {
             let (second, seconds) = (lock.timeout_at.unwrap_or(0), lock.timeout.unwrap_or(0));
@@ -211,7 +214,7 @@ fn check(alloc: Global, ls: &MemLs, at: &DavPath, row: Row<'_>) -> Result<String
 }
 
 // Adds the token of a lock that was discovered.
-fn with_token(tokens: &mut String, token: &str) -> Result<(), Fail> {
+pub(crate) fn with_token(tokens: &mut String, token: &str) -> Result<(), Fail> {
     if !tokens.is_empty() {
         tokens.push(' ')?;
     }
