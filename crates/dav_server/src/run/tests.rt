@@ -49,17 +49,19 @@ fn all_shown(alloc: Global, replies: &[Reply]) -> Result<String, Fail> {
     Ok(all)
 }
 
-// A file that was stored, and that file, by a server without locks.
+// A folder that was made, a file that was stored in it, and that file, by a server without locks.
 const STORED_AND_READ: &str = "201
+
+201
 accept-ranges: bytes
 content-length: 0
-etag: \"2\"
+etag: \"3\"
 last-modified: Thu, 01 Jan 1970 00:00:01 GMT
 
 200
 content-length: 3
 content-type: application/octet-stream
-etag: \"2\"
+etag: \"3\"
 last-modified: Thu, 01 Jan 1970 00:00:01 GMT
 
 one
@@ -69,8 +71,9 @@ one
 fn runs_requests_in_order(rt: HostRuntime) -> Result<(), Fail> {
     let mut server = lockless_server(rt.alloc())?;
     let exchanges = [
-        exchange(b"PUT /a HTTP/1.1\r\nContent-Length: 3\r\n\r\n", b"one")?,
-        exchange(b"GET /a HTTP/1.1\r\n\r\n", b"")?,
+        exchange(b"MKCOL /d HTTP/1.1\r\n\r\n", b"")?,
+        exchange(b"PUT /d/a HTTP/1.1\r\nContent-Length: 3\r\n\r\n", b"one")?,
+        exchange(b"GET /d/a HTTP/1.1\r\n\r\n", b"")?,
     ];
     let replies = server.run(rt.alloc(), &exchanges).map_err(|_| NoMemory)?;
     same(
