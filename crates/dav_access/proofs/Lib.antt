@@ -3,6 +3,7 @@ mod AmountLemmas
 mod CryptLemmas
 mod EncodingLemmas
 mod LimitLemmas
+mod LoginLemmas
 pub mod RuleLemmas
 mod RulesTextLemmas
 mod SecretLemmas

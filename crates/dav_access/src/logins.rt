@@ -1,6 +1,6 @@
 //! Logins that were wrong or right, and who has to wait for the check of a password.
-ghost use Rattle.std.specs.Prelude.{◌≡◌, ◌&&◌, ◌||◌, ◌==◌, ◌++◌, ◌∷◌, [], OnOk, bytes_eq, count_by, if◌then◌else◌, nat_lt, not, take};
-ghost use Rattle.std.specs.List.{filter};
+ghost use Rattle.std.specs.Prelude.{◌≡◌, ◌≢◌, ◌≤◌, ◌*◌, ◌&&◌, ◌||◌, ◌==◌, ◌++◌, ◌∷◌, [], ℕ, All, IfOk, MatchOption, OnOk, bytes_eq, count_by, if◌then◌else◌, length, nat_lt, not, take};
+ghost use Rattle.std.specs.List.{filter, flat_map};
 ghost use Rattle.dav_access.specs.Logins.{is_recent, login_digest};
 
 use sha2::{Digest, Sha256};
@@ -24,6 +24,12 @@ const MOST: usize = 1024;
 
 const MINUTE: u64 = 60;
 
+/// So many bytes the salt of digests has that are kept over a restart.
+const SALT: usize = 16;
+
+/// A digest has so many bytes.
+const DIGEST: usize = 32;
+
 /// A wrong login: the SHA-256 of the name and of the address that it came from, and when, in the
 /// seconds of a clock that goes on steadily.
 #[derive(Clone, Copy, Debug, PartialEq, Eq)]
@@ -37,6 +43,7 @@ pub struct WrongLogin {
 /// last, at most 1,024 of each.
 #[derive(Drop)]
 pub struct Logins {
+    salt: Vec<u8>,
     address: Vec<u8>,
     wrong: Vec<WrongLogin>,
     right: Vec<[u8; 32]>,
@@ -48,6 +55,7 @@ impl Model for Logins {
     ghost Value = { LoginsView };
 
     ghost view = { λ l. record {
+      salt = l.salt.items;
       address = l.address.items;
       wrong = l.wrong.items;
       right = l.right.items;
@@ -146,29 +154,87 @@ fn forget_right(right: &mut Vec<[u8; 32]>, digest: &[u8; 32])
 }
 
 // The digest of a login.
-fn login_digest(name: &[u8], password: &[u8]) -> [u8; 32]
-    ensures { result ≡ login_digest name.now password.now }
+fn login_digest(salt: &[u8], name: &[u8], password: &[u8]) -> [u8; DIGEST]
+    ensures { result ≡ login_digest salt.now name.now password.now }
 {
     let mut hasher = Sha256::new();
+    hasher.update(salt);
     hasher.update(name);
     hasher.update(b":");
     hasher.update(password);
     hasher.finalize()
 }
 
-impl Logins {
-    ghost use Rattle.std.specs.Prelude.{◌≡◌, OnOk};
-    ghost use Rattle.dav_access.specs.Logins.{after_right, after_wrong, are_many, has_erred, is_full, is_right, no_logins, wait_of, wrong_login};
+// Digests that stand one behind another; `None` where these bytes are no whole count of them, or more than 1,024.
+fn digests_in(alloc: Global, bytes: &[u8]) -> Result<Option<Vec<[u8; DIGEST]>>, AllocError>
+    ensures { IfOk result (λ digests. MatchOption digests
+        ((count : ℕ) → count ≤ 1024 → length bytes.now ≢ 32 * count)
+        (λ v. All (λ d. length d ≡ 32) v.items × (length v.items ≤ 1024)
+        × (flat_map (λ d. d) v.items ≡ bytes.now))) }
+{
+    if bytes.len() > MOST * DIGEST {
+        return Ok(None);
+    }
+    let mut digests = Vec::new(alloc);
+    let mut rest = bytes;
+    while let Some((digest, after)) = rest.split_first_chunk::<DIGEST>() {
+        digests.push(*digest)?;
+        rest = after;
+    }
+    Ok(if rest.is_empty() { Some(digests) } else { None })
+}
 
-    /// None was tried.
+impl Logins {
+    ghost use Rattle.std.specs.Prelude.{◌≡◌, ◌≢◌, ◌≤◌, ◌+◌, ◌*◌, ℕ, IfOk, MatchOption, OnOk, length, not};
+    ghost use Rattle.dav_access.specs.Logins.{IsRecalled, after_right, after_wrong, are_many, digest_of, has_erred, is_full, is_right, known_bytes, no_logins, wait_of, wrong_login};
+
+    /// None was tried, and nothing is to be known of them at a later start.
     pub fn new(alloc: Global) -> Logins
         ensures { result ≡ no_logins }
     {
         Logins {
+            salt: Vec::new(alloc),
             address: Vec::new(alloc),
             wrong: Vec::new(alloc),
             right: Vec::new(alloc),
         }
+    }
+
+    /// The logins of which these bytes were kept by `known_bytes`, or, with a salt of 16 bytes alone, none yet; `None` where they have the
+    /// length of none.
+    pub fn recalled(alloc: Global, bytes: &[u8]) -> Result<Option<Logins>, AllocError>
+        ensures { IfOk result (λ logins. MatchOption logins
+            ((count : ℕ) → count ≤ 1024 → length bytes.now ≢ 16 + 32 * count)
+            (IsRecalled bytes.now)) }
+    {
+        let Some((salt, digests)) = bytes.split_first_chunk::<SALT>() else {
+            return Ok(None);
+        };
+        let Some(right) = digests_in(alloc, digests)? else {
+            return Ok(None);
+        };
+        let mut logins = Logins::new(alloc);
+        logins.salt.extend_from_slice(salt)?;
+        logins.right = right;
+        Ok(Some(logins))
+    }
+
+    /// What is to be kept of them over a restart: the salt, and the digests of those that were right when they were tried last.
+    pub fn known_bytes(&self, alloc: Global) -> Result<Vec<u8>, AllocError>
+        ensures { IfOk result (λ bytes. bytes.items ≡ known_bytes self.now) }
+    {
+        let mut bytes = self.salt.to_vec(alloc)?;
+        for digest in &self.right {
+            bytes.extend_from_slice(digest)?;
+        }
+        Ok(bytes)
+    }
+
+    // The digest of a login.
+    fn digest_of(&self, name: &[u8], password: &[u8]) -> [u8; DIGEST]
+        ensures { result ≡ digest_of self.now name.now password.now }
+    {
+        login_digest(&self.salt, name, password)
     }
 
     /// The logins that follow come from this address.
@@ -186,7 +252,7 @@ impl Logins {
     pub fn wait_of(&self, name: &[u8], password: &[u8], now: u64) -> u64
         ensures { result ≡ wait_of self.now name.now password.now now }
     {
-        if self.is_right(&login_digest(name, password)) {
+        if self.is_right(&self.digest_of(name, password)) {
             0
         } else if self.are_many(name, now) {
             MINUTE
@@ -247,20 +313,23 @@ impl Logins {
     {
         let login = self.wrong_login(name, now);
         remember(&mut self.wrong, login, now)?;
-        forget_right(&mut self.right, &login_digest(name, password));
+        let digest = self.digest_of(name, password);
+        forget_right(&mut self.right, &digest);
         Ok(())
     }
 
-    /// Notes that a login was right.
-    pub fn note_right(&mut self, name: &[u8], password: &[u8]) -> Result<(), AllocError>
-        ensures { OnOk result (self.new ≡ after_right self.old name.now password.now) }
+    /// Notes that a login was right. Whether that wasn't known.
+    pub fn note_right(&mut self, name: &[u8], password: &[u8]) -> Result<bool, AllocError>
+        ensures after { OnOk result (self.new ≡ after_right self.old name.now password.now) }
+        ensures anew { IfOk result (λ is_anew. is_anew
+            ≡ not (is_right (digest_of self.old name.now password.now) self.old)) }
     {
-        let digest = login_digest(name, password);
+        let digest = self.digest_of(name, password);
         if self.is_right(&digest) {
-            return Ok(());
+            return Ok(false);
         }
         self.right.insert(0, digest)?;
         self.right.truncate(MOST);
-        Ok(())
+        Ok(true)
     }
 }

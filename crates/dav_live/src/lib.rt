@@ -31,7 +31,7 @@ mod token;
 mod told;
 mod words;
 
-pub use dav_access::{AccessError, Limit, Measure, UsersError};
+pub use dav_access::{AccessError, Limit, Logins, Measure, UsersError};
 pub use dav_shards::first_folder;
 pub use fault::{Fault, OpenError};
 pub use follower::Follower;

@@ -10,6 +10,7 @@ use crate::lists::Lists;
 use crate::machine::Machine;
 use crate::service::{Service, preface};
 use crate::settings::Settings;
+use dav_access::Logins;
 use dav_core::errors::NoMemory;
 use dav_http::Handler;
 use dav_journal::Pair;
@@ -35,6 +36,10 @@ pub trait Watch {
 
     /// Who runs the server is to know this, a notice in a line.
     fn say(&mut self, notices: &str);
+
+    /// A login was right that wasn't known, a second ago at least: of these bytes it is known at the next start, by `Logins::recalled`
+    /// and `Live::know`.
+    fn know(&mut self, logins: &[u8]);
 }
 
 /// A live server: its connections, and what answers their requests.
@@ -64,6 +69,7 @@ impl<D: Disk + Drop> Live<D> {
     ghost use Rattle.dav_live.specs.Runs.{IsOneRun, IsOpened, RunGoesOn};
     ghost use Rattle.dav_live.specs.Numbered.{AreNumbered};
     ghost use Rattle.dav_live.specs.LiveRun.{GoesOnToServe, HasNoReport, HasServed, ServesOn, doing, kept_in, server_of, service_of, turns_of};
+    ghost use Rattle.dav_live.specs.Serving.{StaysAll, logins_of};
 
     /// A server over the two files of its journal: what it answers is as after the requests that the journal has. The files are as
     /// they were, unless they were empty, or the first was the journal of a server from before it made snapshots, which becomes the
@@ -148,6 +154,15 @@ impl<D: Disk + Drop> Live<D> {
             → IsCleanPair D.Disk (journal_of (kept_in self.old)) }
     {
         self.service.begin()
+    }
+
+    /// Goes on with what is known of logins.
+    pub fn know(&mut self, logins: Logins)
+        ensures logins { logins_of (service_of self.new) ≡ logins }
+        ensures same { StaysAll (service_of self.old) (service_of self.new) }
+        ensures turns { turns_of self.new ≡ turns_of self.old }
+    {
+        self.service.know(logins);
     }
 
     /// Serves until the input ends, or something fails: why it ended. Where the input ended, each whole report of it was heard once

@@ -206,6 +206,14 @@ impl<H: Ends + Drop, J: Keeps + Drop> Service<H, J> {
         self.most_waiting
     }
 
+    /// Goes on with what is known of logins.
+    pub fn know(&mut self, logins: Logins)
+        ensures logins { logins_of self.new ≡ logins }
+        ensures same { StaysAll self.old self.new }
+    {
+        self.logins = logins;
+    }
+
     /// Tells what there is to be told.
     pub fn tell<L: Watch>(&mut self, watch: &mut L)
         ensures { self.new ≡ self.old }
@@ -215,6 +223,11 @@ impl<H: Ends + Drop, J: Keeps + Drop> Service<H, J> {
         }
         if !self.told.notices().is_empty() {
             watch.say(self.told.notices());
+        }
+        if self.told.are_logins_due()
+            && let Ok(bytes) = self.logins.known_bytes(self.alloc)
+        {
+            watch.know(&bytes);
         }
         self.told.clear();
     }

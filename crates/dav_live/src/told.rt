@@ -20,6 +20,9 @@ pub struct Told {
     address: String,
     lines: String,
     notices: String,
+    // Whether a login was right that wasn't known, and whether a second passed since.
+    is_login_new: bool,
+    are_logins_due: bool,
 }
 
 impl Model for Told {
@@ -39,6 +42,8 @@ impl Told {
             address: String::new(alloc),
             lines: String::new(alloc),
             notices: String::new(alloc),
+            is_login_new: false,
+            are_logins_due: false,
         }
     }
 
@@ -90,9 +95,26 @@ impl Told {
         self.notices.as_str()
     }
 
-    /// Forgets these lines.
+    /// Notes that a login was right that wasn't known.
+    pub fn note_login(&mut self) {
+        self.is_login_new = true;
+    }
+
+    /// A second passed.
+    pub fn pass_second(&mut self) {
+        self.are_logins_due = self.are_logins_due || self.is_login_new;
+        self.is_login_new = false;
+    }
+
+    /// Whether there are logins to be kept: since this was last cleared a second passed after one that wasn't known.
+    pub fn are_logins_due(&self) -> bool {
+        self.are_logins_due
+    }
+
+    /// Forgets these lines, and that logins are to be kept.
     pub fn clear(&mut self) {
         self.lines.clear();
         self.notices.clear();
+        self.are_logins_due = false;
     }
 }

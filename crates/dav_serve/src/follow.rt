@@ -60,7 +60,7 @@ pub fn follow(rt: &HostRuntime, alloc: Global) -> Result<Fault, Refusal> {
     // A failed write to standard error can't be reported anywhere.
     let _ = eprintln!(rt; "serve: another server has the state in {folder}; it is followed");
     let (mut pipe, mut orders) = (Pipe::new(alloc)?, Vec::new(alloc));
-    let (mut reader, mut writer, mut watcher) = (rt.reader(), io::writer(rt), Watcher::new(rt));
+    let (mut reader, mut writer, mut watcher) = (rt.reader(), io::writer(rt), Watcher::new(rt, None));
     let mut beat = Beat { last: None };
     for _ in 0..u64::MAX {
         match follower.listen(&mut pipe, &mut reader) {
@@ -81,6 +81,7 @@ pub fn follow(rt: &HostRuntime, alloc: Global) -> Result<Fault, Refusal> {
                 "serve: no other server has the state in {folder}; this one has it"
             );
             let (mut live, claim) = take_over(rt, alloc, &state, follower, files)?;
+            let mut watcher = Watcher::new(rt, Some(folder));
             let fault = live.run_on(&mut pipe, &mut reader, &mut writer, &mut watcher);
             return Ok(finish(claim, fault));
         }

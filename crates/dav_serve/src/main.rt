@@ -3,7 +3,8 @@
 //!
 //! That a state was begun is told by FOLDER/state.begun: where that is there, and no block of the state, the state is gone. That there
 //! were rules of access is told by FOLDER/state.ruled: where that is there, and no FOLDER/access, a start is refused. Whose the state is tells
-//! FOLDER/state.claim: a server that doesn't find its own claim there writes nothing, and tells nothing as kept.
+//! FOLDER/state.claim: a server that doesn't find its own claim there writes nothing, and tells nothing as kept. Which logins were right is
+//! kept in FOLDER/state.logins.
 //!
 //! Exit status: 0 the input ended; 1 the arguments, the folder, the users or the rules of access are wrong; 2 a report wasn't understood, or a
 //! pipe failed; 3 memory ran out; 4 the state is damaged or of another version, and nothing was changed; 5 the disk is full or failed; 6
@@ -17,6 +18,7 @@ mod begun;
 mod claim;
 mod follow;
 mod found;
+mod known;
 mod options;
 mod refusal;
 mod rest;
@@ -29,6 +31,7 @@ use dav_claim::Claimed;
 use dav_live::{Fault, Lists, ListsError, Live};
 use follow::follow;
 use found::text_in;
+use known::known_in;
 use options::Options;
 use refusal::{Refusal, refused, status_of, unopened};
 use rest::keep_rest;
@@ -130,6 +133,7 @@ fn made_ready(
     if is_ruled {
         note_ruled(rt, alloc, folder)?;
     }
+    live.know(known_in(rt, alloc, folder)?);
     say_amount(rt, &live);
     Ok(live)
 }
@@ -182,8 +186,10 @@ fn serve(rt: &HostRuntime, alloc: Global) -> Result<Fault, Refusal> {
         Err(OpenError::Busy) if options.follows => return follow(rt, alloc),
         Err(error) => return Err(unopened(options.folder, options.waits, error)),
     };
+    let folder = options.folder.clone()?;
     let (mut live, claim) = open_live(rt, alloc, options, lists, is_ruled, files)?;
-    let fault = live.run(&mut rt.reader(), &mut io::writer(rt), &mut Watcher::new(rt));
+    let mut watcher = Watcher::new(rt, Some(folder.as_str()));
+    let fault = live.run(&mut rt.reader(), &mut io::writer(rt), &mut watcher);
     Ok(finish(claim, fault))
 }
 

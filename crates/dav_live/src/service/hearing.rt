@@ -176,6 +176,7 @@ impl<H: Ends + Drop, J: Keeps + Drop> Keeper for Service<H, J> {
             self.short_journal
         };
         self.is_asked = false;
+        self.told.pass_second();
         match self.mark(least) {
             Ok(()) => Ok(()),
             Err(error) => Err(stop_of(error)),

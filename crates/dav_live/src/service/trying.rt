@@ -80,11 +80,21 @@ impl<H: Ends + Drop, J: Keeps + Drop> Service<H, J> {
         match status {
             401 => self.see_wrong(login),
             421 => Ok(()),
-            _ => {
-                let (name, password) = (login.name.as_bytes(), login.password.as_bytes());
-                Ok(self.logins.note_right(name, password)?)
-            }
+            _ => self.see_right(login),
         }
+    }
+
+    // Notes that a login was right.
+    fn see_right(&mut self, login: &Credentials) -> Result<(), Stop>
+        ensures right { OnOk result (logins_of self.new ≡ after_right (logins_of self.old)
+            (string_bytes login.now.name) (string_bytes login.now.password)) }
+        ensures same { StaysAll self.old self.new }
+    {
+        let (name, password) = (login.name.as_bytes(), login.password.as_bytes());
+        if self.logins.note_right(name, password)? {
+            self.told.note_login();
+        }
+        Ok(())
     }
 
     // Notes that a login was wrong.

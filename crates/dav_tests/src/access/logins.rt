@@ -5,8 +5,8 @@ use std::alloc::{AllocError, Global};
 use std::test::Fail;
 
 // Wrong logins, each `name@address` and its second, `name+password` one that is right, `name-password`
-// one that is wrong, at second 0, and `N*` and `N+` so many wrong and right ones of as many names and
-// addresses; then who comes next, with the password `pw`, and for how many seconds that waits.
+// one that is wrong, at second 0, `N*` and `N+` so many wrong and right ones of as many names and
+// addresses, and `restart` what is kept of them and recalled; then who comes next, with the password `pw`, and for how many seconds that waits.
 const WAITS: &str = "\
 # none, and a few
  | anna@a 0 -> 0
@@ -54,6 +54,12 @@ anna+pw, anna-pw, anna+pw, 16* 0 | anna@a 0 -> 0
 anna+pw, anna+pw, anna-pw, 15* 0 | anna@a 0 -> 1
 anna+pw, 1023+ , 16* 0 | anna@a 0 -> 0
 anna+pw, 1024+ , 16* 0 | anna@a 0 -> 1
+# over a restart it is known who was let in, and not what was wrong
+anna+pw, restart, anna@a 0, anna@a 0, anna@a 0, anna@a 0, anna@a 0 | anna@a 0 -> 0
+anna+pw, anna-pw, restart, anna@a 0, anna@a 0, anna@a 0, anna@a 0, anna@a 0 | anna@a 0 -> 60
+anna+pw, 1023+ , restart, restart, 16* 0 | anna@a 0 -> 0
+anna+pw, 1024+ , restart, 16* 0 | anna@a 0 -> 1
+anna@a 0, anna@a 0, anna@a 0, anna@a 0, anna@a 0, restart | anna@a 0 -> 0
 # at most 1,024 are known
 1024* 5, anna@a 5 | anna@a 5 -> 1
 1024* 5, anna@a 5, anna@a 5, anna@a 5, anna@a 5, anna@a 5 | anna@a 64 -> 0
@@ -81,12 +87,21 @@ fn note(alloc: Global, logins: &mut Logins, who: &str, now: u64) -> Result<(), A
     Ok(())
 }
 
+const SALT: [u8; 16] = *b"the salt of rows";
+
+// The logins of which these bytes were kept.
+fn recalled(alloc: Global, bytes: &[u8]) -> Result<Logins, Fail> {
+    Ok(Logins::recalled(alloc, bytes)?.ok_or("bytes of no logins")?)
+}
+
 // How long the login waits that comes after the others of a row.
 fn waited(alloc: Global, input: &str) -> Result<u64, Fail> {
     let (before, next) = input.split_once(" | ").ok_or("a row without a login")?;
-    let mut logins = Logins::new(alloc);
+    let mut logins = recalled(alloc, &SALT)?;
     for login in before.split(", ") {
-        if let Some((name, password)) = login.split_once('-') {
+        if login == "restart" {
+            logins = recalled(alloc, &logins.known_bytes(alloc)?)?;
+        } else if let Some((name, password)) = login.split_once('-') {
             logins.note_wrong(name.as_bytes(), password.as_bytes(), 0)?;
         } else if let Some((name, password)) = login.split_once('+')
             && password != " "
@@ -113,6 +128,29 @@ fn wrong_logins_wait(rt: HostRuntime) -> Result<(), Fail> {
             count = count.saturating_add(1);
         }
     }
-    assert!(&rt; count == 41, "{count} rows");
+    assert!(&rt; count == 46, "{count} rows");
+    Ok(())
+}
+
+// The salt, and what `sha256sum` says of it with `anna:pw` behind it.
+const KNOWN: [u8; 48] = *b"the salt of rows\
+\x42\x62\x17\xf9\x7e\x61\xf2\x85\x0e\x13\xd9\x38\x08\xc8\x7e\x68\
+\xfb\x5a\xfc\x3c\x2b\xe8\xb6\x2a\xd4\x66\x61\x45\xeb\x74\x37\x47";
+
+#[test]
+fn right_logins_are_kept(rt: HostRuntime) -> Result<(), Fail> {
+    let alloc = rt.alloc();
+    let mut logins = recalled(alloc, &SALT)?;
+    assert!(&rt; logins.note_right(b"anna", b"pw")?);
+    assert!(&rt; !logins.note_right(b"anna", b"pw")?);
+    let kept = logins.known_bytes(alloc)?;
+    assert!(&rt; kept.as_slice() == KNOWN.as_slice());
+    for len in [0usize, 15, 17, 47] {
+        assert!(&rt; Logins::recalled(alloc, &kept[..len])?.is_none(), "{len} bytes");
+    }
+    let mut many = Vec::new(alloc);
+    many.resize(16 + 1025 * 32, 7u8)?;
+    assert!(&rt; Logins::recalled(alloc, &many)?.is_none());
+    assert!(&rt; Logins::recalled(alloc, &many[..16 + 1024 * 32])?.is_some());
     Ok(())
 }
