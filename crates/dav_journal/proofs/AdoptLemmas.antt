@@ -5,7 +5,7 @@ use Rattle.sqlite_disk.specs.declared.Disk.{Ghosts}
 use Rattle.dav_journal.specs.declared.journal.Journal.{Journal}
 use Rattle.dav_journal.specs.Block.{IsBlock}
 use Rattle.dav_journal.specs.File.{Recovers}
-use Rattle.dav_journal.specs.Journal.{HasFront, HasRead, IsOpened, IsReading}
+use Rattle.dav_journal.specs.Journal.{HasFront, HasRead, IsAtEnd, IsOpened, IsReading}
 use Rattle.dav_journal.specs.Pair.{PairRecovers}
 use Rattle.dav_journal.proofs.BlockLemmas.{blocks_le}
 use Rattle.dav_journal.proofs.OneLemmas.{one_block, one_key}
@@ -23,6 +23,12 @@ pub first_read : {D : Type 0} (g : Ghosts D) (j : Journal D) (x y : List ℕ) (y
 first_read g j x y ys reading r =
     let key = one_key (g.seen j.disk) r.key j.key r.small reading.small r.front reading.front in
     one_block j.key (g.seen j.disk) 72 y x (subst (λ k. IsBlock k (g.seen j.disk) 72 y) key (r.blocks.0)) (reading.blocks.0)
+
+-- a file where no first block was read has none
+pub no_first : {D : Type 0} (g : Ghosts D) (j : Journal D) (y : List ℕ) (ys : List (List ℕ)) → IsAtEnd g j [] → Recovers (g.seen j.disk) (y ∷ ys) → ⊥
+no_first g j y ys read r =
+    let key = one_key (g.seen j.disk) r.key j.key r.small read.reading.small r.front read.reading.front in
+    read.nothing y (subst (λ at. IsBlock j.key (g.seen j.disk) at y) read.reading.blocks (subst (λ k. IsBlock k (g.seen j.disk) 72 y) key (r.blocks.0)))
 
 abbrev later : List (List ℕ) → List (List ℕ)
 later [] = []

@@ -1,18 +1,18 @@
 -- A journal that is cleared.
-use Rattle.std.proofs.Common.{◌≡◌, ◌≢◌, ◌⊎◌, ℕ, ◌<◌, ◌^◌, List, [], slice_index, refl, sym, ◌∙◌, ap, subst, inl, inr, arith}
+use Rattle.std.proofs.Common.{◌≡◌, ◌≢◌, ◌⊎◌, ℕ, ◌<◌, ◌^◌, List, [], slice_index, replicate, refl, sym, ◌∙◌, ap, subst, inl, inr, arith}
 use Rattle.std.proofs.lemmas.Bool.{cases_eq, cases_lt}
 use Rattle.std.proofs.lemmas.List.{ext_get_or}
-use Rattle.sqlite_disk.specs.Disk.{Torn}
+use Rattle.sqlite_disk.specs.Disk.{Mixed, Torn}
 use Rattle.sqlite_disk.specs.declared.Disk.{Ghosts}
 use Rattle.dav_journal.specs.declared.journal.Journal.{Journal}
-use Rattle.dav_journal.specs.Block.{front_of}
+use Rattle.dav_journal.specs.Block.{block_bytes, front_of}
 use Rattle.dav_journal.specs.File.{Recovers}
-use Rattle.dav_journal.specs.Journal.{Ends, HasFront, IsOpened, Stays}
-use Rattle.dav_journal.specs.Mark.{IsBlank, IsMarkPlace}
+use Rattle.dav_journal.specs.Journal.{Ends, HasFront, IsBehind, IsOpened, Stays}
+use Rattle.dav_journal.specs.Mark.{IsBlank, IsMarkPlace, KeepsOthers}
 use Rattle.dav_journal.proofs.BlockLemmas.{holds_kept, length-front}
 use Rattle.dav_journal.proofs.CutLemmas.{ends_recovers, torn_front}
-use Rattle.dav_journal.proofs.FrontLemmas.{others_front}
-use Rattle.dav_journal.proofs.MarkLemmas.{KeepsOthers, blank_kept, blank_mark}
+use Rattle.dav_journal.proofs.FrontLemmas.{holds_after, others_front}
+use Rattle.dav_journal.proofs.MarkLemmas.{blank_kept, blank_mark, others_back, torn_others}
 
 pub opened_stays : {D : Type 0} (g : Ghosts D) (old new : Journal D) → Stays g old new → IsOpened g old → IsOpened g new
 opened_stays g old new s o = record { small = rw s.key o.small; outcomes = λ c may. rw s.key (o.outcomes c (s.reads.crash c may)) }
@@ -57,3 +57,24 @@ first_left key old new contents small has blank is_open t r = elim (cases_eq (sl
 -- a write of zeros over the marks leaves the front
 pub others_has : (key : ℕ) (old new : List ℕ) → KeepsOthers old new → HasFront key old → HasFront key new
 others_has key old new k has = record { front = others_front key old new k has.front; more = omega (arith, has.more, k.same_length) }
+
+-- and no other first block
+pub others_behind : (generation : ℕ) (old new : List ℕ) → KeepsOthers old new → IsBehind generation old → IsBehind generation new
+others_behind generation old new k b = record {
+  key = b.key;
+  small = b.small;
+  has = others_has b.key old new k b.has;
+  older = λ block is. b.older block (record { small = is.small; holds = holds_after 72 (block_bytes b.key 72 block) new old (omega arith) (others_back old new k) is.holds });
+}
+
+-- also while marks are lost
+pub cleared_behind : (generation : ℕ) (old new : List ℕ) → IsBehind generation old → Mixed 24 (replicate 48 0) old new → IsBehind generation new
+cleared_behind generation old new b m =
+    others_behind generation old new (torn_others 24 48 old new (omega arith) (omega arith) (omega (arith, b.has.more)) m.torn) b
+
+-- and while the first gate is shut
+pub behind_left : (key generation : ℕ) (old new : List ℕ) → key < 2 ^ 64 → HasFront key old → slice_index old 72 ≡ 1 → Torn 72 1 old new → IsBehind generation old → IsBehind generation new
+behind_left key generation old new small has is_open t b = elim (cases_eq (slice_index new 72) 1) [
+  | inl same ↦ subst (λ (f : List ℕ). IsBehind generation f) (sym (gate_same key old new has t is_open same)) b
+  | inr other ↦ record { key = key; small = small; has = torn_has key old new has t; older = λ block is. absurd (other (is.holds.each 0 (omega arith))) }
+]

@@ -7,9 +7,9 @@ use Rattle.dav_journal.specs.declared.journal.Journal.{Journal}
 use Rattle.dav_journal.specs.Block.{AreBlocks, IsNoBlock, block_bytes, end_of, front_of, twice}
 use Rattle.dav_journal.specs.File.{Recovers}
 use Rattle.dav_journal.specs.Journal.{HasRead, IsCleared, Rests}
-use Rattle.dav_journal.specs.Mark.{AreMarks, IsBlank, IsMark, IsMarkPlace, mark_after}
+use Rattle.dav_journal.specs.Mark.{AreMarks, IsBlank, IsMark, IsMarkPlace, KeepsOthers, mark_after}
 use Rattle.dav_journal.proofs.BlockLemmas.{blocks_le, length-front}
-use Rattle.dav_journal.proofs.MarkLemmas.{KeepsOthers, MarksFade, blank_mark, fade_marks, mark_cases, mark_written, mixed_fade, none_past, others_back, place_high, place_low, torn_others}
+use Rattle.dav_journal.proofs.MarkLemmas.{MarksFade, blank_mark, fade_marks, mark_cases, mark_written, mixed_fade, none_past, others_back, place_high, place_low, torn_others}
 use Rattle.dav_journal.proofs.TwiceLemmas.{length-twice}
 use Rattle.dav_journal.proofs.WriteLemmas.{zero_at}
 

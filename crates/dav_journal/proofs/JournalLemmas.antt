@@ -1,5 +1,5 @@
 -- A journal that only reads.
-use Rattle.std.proofs.Common.{◌+◌, ◌-◌, ◌<◌, inl, inr, ◌≡◌, ℕ, ◌≤◌, List, Result, Ok, Err, length, refl, slice_index, sym, ◌∙◌, ap, subst, arith}
+use Rattle.std.proofs.Common.{◌+◌, ◌-◌, ◌<◌, inl, inr, ◌≡◌, ℕ, ◌≤◌, List, OnOk, Result, Ok, Err, length, refl, slice_index, sym, ◌∙◌, ap, subst, arith}
 use Rattle.std.proofs.lemmas.Bool.{cases_lt}
 use Rattle.std.proofs.lemmas.List.{ext_get_or}
 use Rattle.sqlite_disk.specs.Disk.{Follows, Holds}
@@ -8,7 +8,7 @@ use Rattle.sqlite_disk.specs.declared.Disk.{Ghosts}
 use Rattle.dav_journal.specs.declared.journal.Journal.{Journal}
 use Rattle.dav_journal.specs.Block.{AreBlocks, IsNoBlock}
 use Rattle.dav_journal.specs.File.{Recovers}
-use Rattle.dav_journal.specs.Journal.{HasRead, IsKept, IsReading, Stays, blocks_end, blocks_len}
+use Rattle.dav_journal.specs.Journal.{HasRead, IsAtEnd, IsKept, IsReading, Stays, blocks_end, blocks_len}
 use Rattle.dav_journal.specs.Mark.{NoneMarkedPast}
 use Rattle.dav_journal.proofs.BlockLemmas.{blocks_le, rests_below}
 use Rattle.dav_journal.proofs.MarkLemmas.{blank_kept, none_past}
@@ -57,6 +57,15 @@ more_stays g old mid new contents first later r more =
 pub unmarked_stays : {D : Type 0} (g : Ghosts D) (mid new : Journal D) → Stays g mid new → NoneMarkedPast (g.seen mid.disk) mid.end → NoneMarkedPast (g.seen new.disk) new.end
 unmarked_stays g mid new s none = rw (s.reads.seen, s.end) none
 
+-- where no block follows, a byte does, and no mark says otherwise, all was read
+pub ended_read : {D : Type 0} (g : Ghosts D) (old new : Journal D) (contents : List (List ℕ)) → Stays g old new → IsAtEnd g old contents → blocks_end old < blocks_len old → NoneMarkedPast (g.seen old.disk) old.end → HasRead g new contents
+ended_read g old new contents s r more unmarked = record {
+  reading = reading_stays g old new contents s r.reading;
+  nothing = nothing_stays g old new s r.nothing;
+  more = let long = reading_stays g old new contents s r.reading in omega (arith, long.whole, s.end, s.len, more);
+  unmarked = unmarked_stays g old new s unmarked;
+}
+
 -- where no block follows, and yet the file doesn't end as it has to, it stands for nothing
 pub damage_stands : {D : Type 0} (g : Ghosts D) (j : Journal D) (contents others : List (List ℕ)) → IsReading g j contents → IsNoBlock j.key (g.seen j.disk) j.end → (NoneMarkedPast (g.seen j.disk) j.end → j.end < j.len → ⊥)
     → Recovers (g.seen j.disk) others → ⊥
@@ -87,6 +96,11 @@ kept_grown g old disk len contents stays low step others kept = record {
 -- all of a file was read
 pub whole_held : (file bytes : List ℕ) → length bytes ≡ length file → (0 < length bytes → Holds file 0 bytes) → bytes ≡ file
 whole_held file bytes long h = ext_get_or 0 bytes file long (λ i low. sym (ap (slice_index file) (omega arith) ∙ (h (omega (arith, low))).each i low))
+
+-- what holds whether or not a call succeeds
+pub also_ok : {A E P : Type 0} (r : Result A E) → P → OnOk r P
+also_ok (Ok a) p = p
+also_ok (Err e) p = tt
 
 -- an error, whatever the result would have been
 moved : {A B E : Type 0} → E → Result A E → Result B E

@@ -9,7 +9,7 @@ use Rattle.dav_journal.specs.Journal.{HasRead, IsKept, IsReading, OnlyLooks, Sta
 use Rattle.dav_journal.specs.Pair.{HasAllPair, HasReadPair, IsKeptPair, IsReadingPair, IsSpare, IsUnturned, OnlyLooksPair, OnlyReadsPair, PairLeaves, PairLeavesOnly, with_generation}
 use Rattle.dav_journal.proofs.BlockLemmas.{block_content, holds_first}
 use Rattle.dav_journal.proofs.JournalLemmas.{nothing_stays, read_stays, reading_stays}
-use Rattle.dav_journal.proofs.PairLemmas.{kept_recovers, pair_alone}
+use Rattle.dav_journal.proofs.PairLemmas.{kept_recovers, pair_alone, spare_stays}
 
 pub kept_looks : {D : Type 0} (g : Ghosts D) (old new : Journal D) (contents : List (List ℕ)) → OnlyLooks g old new → IsKept g old contents → IsKept g new contents
 kept_looks g old new contents l kept = subst (λ j. IsKept g j contents) (sym l.same) (record {
@@ -39,14 +39,6 @@ looks_leaves g old new contents others l was c d may might = inl (looks_only g o
 -- a journal that only looks stays at its place
 pub looks_stay : {D : Type 0} (g : Ghosts D) (old new : Journal D) → OnlyLooks g old new → Stays g old new
 looks_stay g old new l = record { reads = l.reads; key = ap (λ j. j.key) l.same; end = ap (λ j. j.end) l.same; len = ap (λ j. j.len) l.same }
-
-spare_stays : {D : Type 0} (g : Ghosts D) (old new : Journal D) (generation : ℕ) → Stays g old new → IsSpare g old generation → IsSpare g new generation
-spare_stays g old new generation s was = record {
-  small = rw s.key was.small;
-  has = rw (s.key, s.reads.seen) was.has;
-  only = λ c may. was.only c (s.reads.crash c may) ∙ sym s.reads.seen;
-  older = rw (s.reads.seen, s.key) was.older;
-}
 
 -- what was read of a pair is what it has, as long as both journals stay
 pub read_pair_stays : {D : Type 0} (g : Ghosts D) (old new : Pair D) (contents : List (List ℕ)) → Stays g old.counts new.counts → Stays g old.spare new.spare → new.generation ≡ old.generation

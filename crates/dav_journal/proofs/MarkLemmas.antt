@@ -4,7 +4,7 @@ use Rattle.std.proofs.lemmas.Bool.{cases_lt}
 use Rattle.std.proofs.lemmas.List.{get_or_past, length-replicate}
 use Rattle.sqlite_disk.specs.Disk.{Holds, Mixed, Torn}
 use Rattle.dav_journal.specs.Block.{twice}
-use Rattle.dav_journal.specs.Mark.{AreMarks, IsBlank, IsLastMark, IsMark, IsMarkPlace, NoneMarkedPast, mark_after}
+use Rattle.dav_journal.specs.Mark.{AreMarks, IsBlank, IsLastMark, IsMark, IsMarkPlace, KeepsOthers, NoneMarkedPast, mark_after}
 use Rattle.dav_journal.specs.Write.{KeepsFront}
 use Rattle.dav_journal.proofs.TwiceLemmas.{length-twice, twice_same}
 use Rattle.dav_journal.proofs.WriteLemmas.{zero_at}
@@ -122,12 +122,6 @@ mark_written p end old new here small long marks blank m at is = elim (mark_case
   where
     other : AreApart at p → IsMark new end at
     other apart = mark_same old new end end at (omega arith) (marks at is) (λ i low. torn_apart p at _ i old new long (length-twice end) (place_high at is) low apart m.torn)
-
--- all but the marks is as it was
-pub record KeepsOthers (old new : List ℕ) : Type 0 where
-  pub same_length : length new ≡ length old
-  pub low : (i : ℕ) → i < 24 → slice_index new i ≡ slice_index old i
-  pub high : (i : ℕ) → 72 ≤ i → slice_index new i ≡ slice_index old i
 
 pub torn_others : (at n : ℕ) (old new : List ℕ) → 24 ≤ at → at + n ≤ 72 → 72 ≤ length old → Torn at n old new → KeepsOthers old new
 torn_others at n old new from to long t = record {

@@ -1,8 +1,9 @@
 -- What contracts see of a journal.
 use Rattle.std.specs.Prelude.{◌≡◌, ◌≢◌, ◌⊎◌, ℕ, ◌+◌, ◌<◌, ◌≤◌, ◌^◌, List, [], ◌∷◌, ◌++◌, length, slice_index, IsTrue}
+use Rattle.std.specs.Int.{w64, to_be_bytes}
 use Rattle.sqlite_disk.specs.Disk.{Holds, Only}
 use Rattle.sqlite_disk.specs.declared.Disk.{Ghosts}
-use Rattle.dav_journal.specs.Block.{AreBlocks, IsNoBlock, block_bytes, front_of}
+use Rattle.dav_journal.specs.Block.{AreBlocks, IsBlock, IsNoBlock, block_bytes, front_of}
 use Rattle.dav_journal.specs.File.{Recovers}
 use Rattle.dav_journal.specs.Mark.{AreMarks, IsBlank, IsMarkPlace, NoneMarkedPast}
 use Rattle.dav_journal.specs.declared.journal.Journal.{Journal}
@@ -38,6 +39,11 @@ pub record IsReading {D : Type 0} (g : Ghosts D) (j : Journal D) (contents : Lis
   pub blocks : AreBlocks j.key (g.seen j.disk) 72 contents j.end
   pub only : Only (g.seen j.disk) (g.may_leave j.disk)
   pub whole : length (g.seen j.disk) ≡ j.len
+
+-- Blocks of these contents were read, and no other follows, whatever the marks say.
+pub record IsAtEnd {D : Type 0} (g : Ghosts D) (j : Journal D) (contents : List (List ℕ)) : Type 0 where
+  pub reading : IsReading g j contents
+  pub nothing : IsNoBlock j.key (g.seen j.disk) j.end
 
 -- They are all that the file has: no block follows them, but a byte at least, and no mark says that they reached further.
 pub record HasRead {D : Type 0} (g : Ghosts D) (j : Journal D) (contents : List (List ℕ)) : Type 0 where
@@ -102,6 +108,30 @@ LeavesEither g disk one other =
 pub record HasFront (key : ℕ) (file : List ℕ) : Type 0 where
   pub front : Holds file 0 (front_of key)
   pub more : 72 < length file
+
+-- a file is that of a journal, of whatever blocks and marks
+pub record IsJournal (file : List ℕ) : Type 0 where
+  pub key : ℕ
+  pub small : key < 2 ^ 64
+  pub has : HasFront key file
+
+-- a first block begins with a generation that is lower
+pub record BeginsBelow (generation : ℕ) (block : List ℕ) : Type 0 where
+  pub own : ℕ
+  pub lower : own < generation
+  pub content : List ℕ
+  pub begins : block ≡ to_be_bytes w64 own ++ content
+
+-- a file is that of a journal, of whatever marks, and has no first block but one of an older generation
+pub record IsBehind (generation : ℕ) (file : List ℕ) : Type 0 where
+  pub key : ℕ
+  pub small : key < 2 ^ 64
+  pub has : HasFront key file
+  pub older : (block : List ℕ) → IsBlock key file 72 block → BeginsBelow generation block
+
+-- each outcome of a crash of a journal is such a file
+abbrev pub LeavesBehind : {D : Type 0} → Ghosts D → Journal D → ℕ → Type 0
+LeavesBehind g j generation = (c : List ℕ) → g.may_leave j.disk c → IsBehind generation c
 
 -- Whatever a crash now leaves is the file of a journal, of whatever blocks.
 pub record IsOpened {D : Type 0} (g : Ghosts D) (j : Journal D) : Type 0 where

@@ -35,6 +35,12 @@ pub record IsMark (file : List ℕ) (end at : ℕ) : Type 0 where
 abbrev pub AreMarks : List ℕ → ℕ → Type 0
 AreMarks file end = (at : ℕ) → IsMarkPlace at → IsMark file end at
 
+-- a file is as it was but for its marks
+pub record KeepsOthers (old new : List ℕ) : Type 0 where
+  pub same_length : length new ≡ length old
+  pub low : (i : ℕ) → i < 24 → slice_index new i ≡ slice_index old i
+  pub high : (i : ℕ) → 72 ≤ i → slice_index new i ≡ slice_index old i
+
 -- zeros are at the place of a mark
 abbrev pub IsBlank : List ℕ → ℕ → Type 0
 IsBlank file at = (i : ℕ) → i < 16 → slice_index file (at + i) ≡ 0

@@ -1,13 +1,12 @@
 -- Two files, of which one counts: what they stand for, and what contracts see of a pair of
 -- journals.
-use Rattle.std.specs.Prelude.{◌≡◌, ◌≢◌, ◌⊎◌, ℕ, ◌<◌, ◌^◌, List, Option, Some, None, MatchOption, length, slice_index, [], ◌∷◌, ◌++◌, IsTrue}
-use Rattle.std.specs.Bool.{⊤}
+use Rattle.std.specs.Prelude.{◌≡◌, ◌≢◌, ◌⊎◌, ℕ, zero, suc, ◌<◌, ◌^◌, List, Option, Some, None, MatchOption, length, slice_index, [], ◌∷◌, ◌++◌, IsTrue}
 use Rattle.std.specs.Int.{w64, to_be_bytes}
 use Rattle.sqlite_disk.specs.Disk.{Holds, Only}
 use Rattle.sqlite_disk.specs.declared.Disk.{Ghosts}
 use Rattle.dav_journal.specs.Block.{AreBlocks, IsBlock, IsNoBlock}
 use Rattle.dav_journal.specs.File.{IsBegun, Recovers}
-use Rattle.dav_journal.specs.Journal.{HasFront, HasRead, IsClean, IsKept, IsOwn, IsReading, OnlyLooks, OnlyReads, Stays, disk_of, file_of}
+use Rattle.dav_journal.specs.Journal.{BeginsBelow, HasFront, HasRead, IsBehind, IsClean, IsKept, IsOwn, IsReading, OnlyLooks, OnlyReads, Stays, disk_of, file_of}
 use Rattle.dav_journal.specs.Mark.{NoneMarkedPast}
 use Rattle.dav_journal.specs.declared.journal.Journal.{Journal}
 use Rattle.dav_journal.specs.declared.pair.Pair.{Pair}
@@ -18,28 +17,20 @@ abbrev pub with_generation : ℕ → List (List ℕ) → List (List ℕ)
 with_generation generation [] = []
 with_generation generation (content ∷ contents) = (to_be_bytes w64 generation ++ content) ∷ contents
 
--- a first block begins with a generation that is lower
-pub record BeginsBelow (generation : ℕ) (block : List ℕ) : Type 0 where
-  pub own : ℕ
-  pub lower : own < generation
-  pub content : List ℕ
-  pub begins : block ≡ to_be_bytes w64 own ++ content
+-- What is beside a file of a generation and of contents. In the first generation, and where there are
+-- no contents, it has no block, and no mark of one; later its first block is of an older generation, or
+-- it has none, whatever its marks say.
+abbrev pub IsBeside : ℕ → List (List ℕ) → List ℕ → Type 0
+IsBeside zero contents other = Recovers other []
+IsBeside (suc before) [] other = Recovers other []
+IsBeside (suc before) (content ∷ contents) other = IsBehind (suc before) other
 
--- blocks of a file are none, or of a lower generation
-abbrev pub AreOlder : ℕ → List (List ℕ) → Type 0
-AreOlder generation [] = ⊤
-AreOlder generation (block ∷ blocks) = BeginsBelow generation block
-
--- A file has blocks of these contents and of a generation; the other one has blocks of an older
--- one, or none. Where there are no contents, neither has a block.
+-- A file has blocks of these contents and of a generation, and the other one is such a file beside it.
 pub record Counts (file other : List ℕ) (contents : List (List ℕ)) : Type 0 where
   pub generation : ℕ
   pub small : generation < 2 ^ 64
   pub counts : Recovers file (with_generation generation contents)
-  pub blocks : List (List ℕ)
-  pub stands : Recovers other blocks
-  pub older : AreOlder generation blocks
-  pub none : contents ≡ [] → blocks ≡ []
+  pub beside : IsBeside generation contents other
 
 -- A pair of files stands for these contents: one of them counts, whichever.
 abbrev pub PairRecovers : List ℕ → List ℕ → List (List ℕ) → Type 0

@@ -6,7 +6,7 @@ ghost use Rattle.dav_journal.specs.File.{IsBegun, Recovers};
 ghost use Rattle.dav_journal.specs.Mark.{IsLastMark, IsMark, IsMarkPlace, NoneMarkedPast};
 ghost use Rattle.dav_journal.specs.declared.error.JournalError.TheVariants.{Damaged};
 ghost use Rattle.dav_journal.specs.Error.{IsNoDamage};
-ghost use Rattle.dav_journal.specs.Journal.{HasRead, IsBare, IsClean, IsCleared, IsKept, IsOpened, IsReading, IsShut, IsSynced, IsWrittenBlock, LeavesAtMost, LeavesEither, LeavesOnly, OnlyReads, Stays, blocks_end, blocks_len, disk_of, file_of};
+ghost use Rattle.dav_journal.specs.Journal.{HasRead, IsBare, IsClean, IsCleared, IsJournal, IsKept, IsOpened, IsReading, IsShut, IsSynced, IsWrittenBlock, LeavesAtMost, LeavesEither, LeavesOnly, OnlyReads, Stays, blocks_end, blocks_len, disk_of, file_of};
 ghost use Rattle.dav_journal.specs.Write.{HasZeros, KeepsBelow};
 
 mod clearing;
@@ -65,8 +65,9 @@ impl<D: Disk + Drop> Journal<D> {
             → LeavesOnly D.Disk self.old contents → LeavesOnly D.Disk self.new contents }
         ensures begun { IsClean D.Disk self.new → IsBegun (file_of D.Disk self.old)
             ⊎ OnlyReads D.Disk (disk_of self.old) (disk_of self.new) }
-        ensures stands { IsClean D.Disk self.new → (contents : List (List ℕ))
-            → Recovers (file_of D.Disk self.old) contents
+        ensures long { OnOk result (IsClean D.Disk self.new
+            → 72 < length (file_of D.Disk self.new)) }
+        ensures stands { IsClean D.Disk self.new → IsJournal (file_of D.Disk self.old)
             → OnlyReads D.Disk (disk_of self.old) (disk_of self.new) }
         ensures clean { IsClean D.Disk self.new → IsClean D.Disk self.old }
     {
@@ -94,6 +95,8 @@ impl<D: Disk + Drop> Journal<D> {
         ensures sound { IfErr result IsNoDamage }
         ensures reading { OnOk result (IsClean D.Disk self.new
             → length (file_of D.Disk self.old) ≡ len → IsReading D.Disk self.new []) }
+        ensures long { OnOk result (IsClean D.Disk self.new
+            → 72 < length (file_of D.Disk self.new)) }
         ensures clean { IsClean D.Disk self.new → IsClean D.Disk self.old }
         ensures begun { IsClean D.Disk self.new → length (file_of D.Disk self.old) ≡ len
             → IsBegun (file_of D.Disk self.old)

@@ -13,6 +13,6 @@ mod write;
 pub use error::JournalError;
 pub use journal::{Journal, keep_and_crash, stands_for_one_list};
 pub use pair::{
-    Pair, pair_stands_for_one_list, reads_what_it_stands_for, renew_and_crash,
-    what_was_passed_is_not_own,
+    Pair, late_marks_change_nothing, pair_stands_for_one_list, reads_what_it_stands_for,
+    renew_and_crash, what_was_passed_is_not_own,
 };

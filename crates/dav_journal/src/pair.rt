@@ -5,7 +5,8 @@ ghost use Rattle.sqlite_disk.specs.Disk.{Holds};
 ghost use Rattle.dav_journal.specs.File.{Recovers};
 ghost use Rattle.dav_journal.specs.declared.error.JournalError.TheVariants.{Damaged};
 ghost use Rattle.dav_journal.specs.Journal.{HasRead, IsClean, IsReading, OnlyReads, blocks_end, blocks_len, disk_of, file_of};
-ghost use Rattle.dav_journal.specs.Pair.{GoesOn, HasFirst, HasReadPair, IsCleanPair, IsKeptPair, IsMixingPair, IsOwnPair, IsPassed, Knows, IsReadingPair, OnlyReadsPair, PairLeaves, PairLeavesOnly, PairRecovers, PairStandsFor, StaysPair, WereOpened, counting, generation_of, spare_of};
+ghost use Rattle.dav_journal.specs.Mark.{KeepsOthers};
+ghost use Rattle.dav_journal.specs.Pair.{Counts, GoesOn, HasFirst, HasReadPair, IsCleanPair, IsKeptPair, IsMixingPair, IsOwnPair, IsPassed, Knows, IsReadingPair, OnlyReadsPair, PairLeaves, PairLeavesOnly, PairRecovers, PairStandsFor, StaysPair, WereOpened, counting, generation_of, spare_of};
 
 mod adopting;
 mod elder;
@@ -88,6 +89,14 @@ pub fn pair_stands_for_one_list()
         → PairRecovers file other xs → PairRecovers file other ys → xs ≡ ys }
     ensures either { (file other : List ℕ) (xs : List (List ℕ))
         → PairRecovers file other xs → PairRecovers other file xs }
+{}
+
+/// A mark that comes late changes nothing: where a pair has begun anew, it stands for the same
+/// contents whatever is at the places of the marks of the file that doesn't count.
+pub fn late_marks_change_nothing()
+    ensures { (file other late first : List ℕ) (more : List (List ℕ))
+        → (counts : Counts file other (first ∷ more)) → 0 < counts.generation
+        → KeepsOthers other late → PairRecovers file late (first ∷ more) }
 {}
 
 /// Where another opening went on with the files of a pair, they are its own no more: so it keeps

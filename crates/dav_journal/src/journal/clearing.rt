@@ -6,7 +6,7 @@ ghost use Rattle.dav_journal.specs.File.{IsBegun, Recovers};
 ghost use Rattle.dav_journal.specs.Mark.{IsLastMark, IsMark, IsMarkPlace, NoneMarkedPast};
 ghost use Rattle.dav_journal.specs.declared.error.JournalError.TheVariants.{Damaged};
 ghost use Rattle.dav_journal.specs.Error.{IsNoDamage};
-ghost use Rattle.dav_journal.specs.Journal.{HasRead, IsBare, IsClean, IsCleared, IsKept, IsOpened, IsReading, IsShut, IsSynced, IsWrittenBlock, LeavesAtMost, LeavesEither, LeavesOnly, OnlyReads, Stays, blocks_end, blocks_len, disk_of, file_of};
+ghost use Rattle.dav_journal.specs.Journal.{HasRead, IsBare, IsClean, IsCleared, IsKept, IsOpened, IsReading, IsShut, IsSynced, IsWrittenBlock, LeavesAtMost, LeavesBehind, LeavesEither, LeavesOnly, OnlyReads, Stays, blocks_end, blocks_len, disk_of, file_of};
 
 use crate::block::{OPEN, START};
 use crate::error::JournalError;
@@ -24,6 +24,8 @@ impl<D: Disk + Drop> Journal<D> {
         ensures any_moment { IsClean D.Disk self.new → IsOpened D.Disk self.old
             → (contents : List (List ℕ)) → LeavesOnly D.Disk self.old contents
             → LeavesEither D.Disk (disk_of self.new) contents [] }
+        ensures behind { IsClean D.Disk self.new → IsOpened D.Disk self.old → (generation : ℕ)
+            → LeavesBehind D.Disk self.old generation → LeavesBehind D.Disk self.new generation }
     {
         self.drop_marks()?;
         self.shut_first()?;
@@ -37,6 +39,8 @@ impl<D: Disk + Drop> Journal<D> {
             → IsBare D.Disk self.new) }
         ensures any_moment { (contents : List (List ℕ)) → LeavesOnly D.Disk self.old contents
             → LeavesOnly D.Disk self.new contents }
+        ensures behind { (generation : ℕ) → LeavesBehind D.Disk self.old generation
+            → LeavesBehind D.Disk self.new generation }
     {
         if self.disk.mixes() {
             return self.clear_all();
@@ -65,6 +69,8 @@ impl<D: Disk + Drop> Journal<D> {
         ensures any_moment { IsClean D.Disk self.new → IsBare D.Disk self.old
             → (contents : List (List ℕ)) → LeavesOnly D.Disk self.old contents
             → LeavesEither D.Disk (disk_of self.new) contents [] }
+        ensures behind { IsClean D.Disk self.new → IsBare D.Disk self.old → (generation : ℕ)
+            → LeavesBehind D.Disk self.old generation → LeavesBehind D.Disk self.new generation }
     {
         if !self.disk.may_be_used() {
             return Err(JournalError::Io);

@@ -6,7 +6,7 @@ ghost use Rattle.dav_journal.specs.File.{IsBegun, Recovers};
 ghost use Rattle.dav_journal.specs.Mark.{IsLastMark, IsMark, IsMarkPlace, NoneMarkedPast};
 ghost use Rattle.dav_journal.specs.declared.error.JournalError.TheVariants.{Damaged};
 ghost use Rattle.dav_journal.specs.Error.{IsNoDamage};
-ghost use Rattle.dav_journal.specs.Journal.{HasRead, IsBare, IsClean, IsCleared, IsKept, IsOpened, IsReading, IsShut, IsSynced, IsWrittenBlock, LeavesAtMost, LeavesEither, LeavesOnly, OnlyReads, Stays, blocks_end, blocks_len, disk_of, file_of};
+ghost use Rattle.dav_journal.specs.Journal.{HasRead, IsBare, IsClean, IsCleared, IsKept, IsOpened, IsReading, IsShut, IsSynced, IsWrittenBlock, LeavesAtMost, LeavesBehind, LeavesEither, LeavesOnly, OnlyReads, Stays, blocks_end, blocks_len, disk_of, file_of};
 ghost use Rattle.dav_journal.specs.Write.{HasZeros, KeepsBelow};
 
 use crate::block::{FRONT, twice_bytes};
@@ -101,6 +101,8 @@ impl<D: Disk + Drop> Journal<D> {
         ensures any_moment { IsTrue (D.Disk.is_mixing (disk_of self.old))
             → (contents : List (List ℕ)) → LeavesOnly D.Disk self.old contents
             → LeavesOnly D.Disk self.new contents }
+        ensures behind { IsTrue (D.Disk.is_mixing (disk_of self.old)) → (generation : ℕ)
+            → LeavesBehind D.Disk self.old generation → LeavesBehind D.Disk self.new generation }
     {
         if !self.disk.may_be_used() {
             return Err(JournalError::Io);

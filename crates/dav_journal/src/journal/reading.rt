@@ -6,7 +6,7 @@ ghost use Rattle.dav_journal.specs.File.{IsBegun, Recovers};
 ghost use Rattle.dav_journal.specs.Mark.{IsLastMark, IsMark, IsMarkPlace, NoneMarkedPast};
 ghost use Rattle.dav_journal.specs.declared.error.JournalError.TheVariants.{Damaged};
 ghost use Rattle.dav_journal.specs.Error.{IsNoDamage};
-ghost use Rattle.dav_journal.specs.Journal.{HasRead, IsBare, IsClean, IsCleared, IsKept, IsOpened, IsReading, IsShut, IsSynced, IsWrittenBlock, LeavesAtMost, LeavesEither, LeavesOnly, OnlyLooks, OnlyReads, Stays, blocks_end, blocks_len, disk_of, file_of};
+ghost use Rattle.dav_journal.specs.Journal.{HasRead, IsAtEnd, IsBare, IsClean, IsCleared, IsKept, IsOpened, IsReading, IsShut, IsSynced, IsWrittenBlock, LeavesAtMost, LeavesEither, LeavesOnly, OnlyLooks, OnlyReads, Stays, blocks_end, blocks_len, disk_of, file_of};
 ghost use Rattle.dav_journal.specs.Write.{HasZeros, KeepsBelow};
 
 use crate::block::{HEAD, OPEN, is_head, len_in};
@@ -29,8 +29,24 @@ impl<D: Disk + Drop> Journal<D> {
             → IsReading D.Disk self.old contents → (place ≡ blocks_end self.old)
             × ((others : List (List ℕ)) → Recovers (file_of D.Disk self.old) others → ⊥) }
     {
-        let Some(content) = self.block_here(alloc)? else {
+        let Some(content) = self.next_block(alloc)? else {
             self.see_end()?;
+            return Ok(None);
+        };
+        Ok(Some(content))
+    }
+
+    /// The same, whatever the marks say and however the file ends: `None` where no block follows.
+    pub fn next_block(&mut self, alloc: Global) -> Result<Option<Vec<u8>>, JournalError>
+        ensures sound { IfErr result IsNoDamage }
+        ensures reads { OnlyReads D.Disk (disk_of self.old) (disk_of self.new) }
+        ensures stays { IfOk result (λ block. IsNone block → Stays D.Disk self.old self.new) }
+        ensures read { IfOk result (λ block. IsClean D.Disk self.new → (contents : List (List ℕ))
+            → IsReading D.Disk self.old contents
+            → MatchOption block (IsAtEnd D.Disk self.new contents)
+            (λ b. IsReading D.Disk self.new (contents ++ b.items ∷ []))) }
+    {
+        let Some(content) = self.block_here(alloc)? else {
             return Ok(None);
         };
         self.end += HEAD + content.len();
@@ -115,8 +131,8 @@ impl<D: Disk + Drop> Journal<D> {
         Ok(content)
     }
 
-    // Whether the blocks may end here, where no other follows: `Damaged` where one did.
-    pub(super) fn see_end(&mut self) -> Result<(), JournalError>
+    /// Whether the blocks may end here, where no other follows: `Damaged` where one did.
+    pub fn see_end(&mut self) -> Result<(), JournalError>
         ensures stays { Stays D.Disk self.old self.new }
         ensures more { OnOk result (blocks_end self.old < blocks_len self.old) }
         ensures unmarked { OnOk result (IsClean D.Disk self.new

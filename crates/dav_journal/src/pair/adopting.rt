@@ -2,7 +2,7 @@
 ghost use Rattle.std.specs.Prelude.{◌≡◌, ◌++◌, ◌∷◌, [], ℕ, List, IsTrue, IsFalse, IfOk, OnOk};
 ghost use Rattle.std.specs.Int.{w64, to_be_bytes};
 ghost use Rattle.dav_journal.specs.File.{Recovers};
-ghost use Rattle.dav_journal.specs.Journal.{HasRead, IsClean, IsKept, IsReading, LeavesOnly, OnlyReads, disk_of, file_of};
+ghost use Rattle.dav_journal.specs.Journal.{HasRead, IsClean, IsJournal, IsKept, IsReading, LeavesOnly, OnlyReads, disk_of, file_of};
 ghost use Rattle.dav_journal.specs.Pair.{IsCleanPair, LeavesFormer, PairLeavesOnly, counting, spare_of};
 
 use crate::error::JournalError;
@@ -49,8 +49,8 @@ impl<D: Disk + Drop> Pair<D> {
     // then. Where it is another, the other file isn't opened.
     fn has_former(&mut self, alloc: Global, former: &[u8]) -> Result<bool, JournalError>
         ensures clean { IsCleanPair D.Disk self.new → IsCleanPair D.Disk self.old }
-        ensures stands { IsCleanPair D.Disk self.new → (contents : List (List ℕ))
-            → Recovers (file_of D.Disk (counting self.old)) contents
+        ensures stands { IsCleanPair D.Disk self.new
+            → IsJournal (file_of D.Disk (counting self.old))
             → OnlyReads D.Disk (disk_of (counting self.old)) (disk_of (counting self.new)) }
         ensures begins { IfOk result (λ is. IsTrue is → IsCleanPair D.Disk self.new
             → IsReading D.Disk (counting self.new) (former.now ∷ [])) }
@@ -95,8 +95,7 @@ pub fn begins_with<D: Disk + Drop>(
     former: &[u8],
 ) -> Result<bool, JournalError>
     ensures clean { IsClean D.Disk journal.new → IsClean D.Disk journal.old }
-    ensures stands { IsClean D.Disk journal.new → (contents : List (List ℕ))
-        → Recovers (file_of D.Disk journal.old) contents
+    ensures stands { IsClean D.Disk journal.new → IsJournal (file_of D.Disk journal.old)
         → OnlyReads D.Disk (disk_of journal.old) (disk_of journal.new) }
     ensures begins { IfOk result (λ is. IsTrue is → IsClean D.Disk journal.new
         → IsReading D.Disk journal.new (former.now ∷ [])) }
@@ -105,7 +104,7 @@ pub fn begins_with<D: Disk + Drop>(
         → Recovers (file_of D.Disk journal.old) (former.now ∷ blocks) → ⊥) }
 {
     journal.open()?;
-    let Some(block) = journal.next(alloc)? else {
+    let Some(block) = journal.next_block(alloc)? else {
         return Ok(false);
     };
     Ok(block.as_slice() == former)
@@ -122,9 +121,9 @@ fn see_copy<D: Disk + Drop>(
     ensures clean { IsClean D.Disk to.new → IsClean D.Disk to.old }
 {
     to.open()?;
-    to.next(alloc)?;
+    to.next_block(alloc)?;
     for _ in 0..u64::MAX {
-        let Some(copied) = to.next(alloc)? else {
+        let Some(copied) = to.next_block(alloc)? else {
             return Ok(());
         };
         if !is_next(from, alloc, &copied)? {

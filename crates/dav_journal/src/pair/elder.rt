@@ -165,9 +165,9 @@ fn see_elder_copy<D: Disk + Drop>(
     ensures clean { IsClean D.Disk to.new → IsClean D.Disk to.old }
 {
     to.open()?;
-    to.next(alloc)?;
+    to.next_block(alloc)?;
     for _ in 0..u64::MAX {
-        let Some(copied) = to.next(alloc)? else {
+        let Some(copied) = to.next_block(alloc)? else {
             return Ok(());
         };
         if !is_next_elder(from, alloc, &copied)? {

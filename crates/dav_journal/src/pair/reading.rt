@@ -45,10 +45,11 @@ impl<D: Disk + Drop> Pair<D> {
             → IsReadingPair D.Disk self.old [] → (place ≡ blocks_end (counting self.old))
             × ((others : List (List ℕ)) → PairStandsFor D.Disk self.old others → ⊥) }
     {
-        let Some(block) = self.counts.next(alloc)? else {
+        let Some(block) = self.counts.next_block(alloc)? else {
             if self.generation != 0 {
                 return Err(JournalError::Io);
             }
+            self.counts.see_end()?;
             return Ok(None);
         };
         let Some(content) = content_in(&block, self.generation) else {

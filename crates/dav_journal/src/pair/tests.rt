@@ -148,7 +148,8 @@ fn steps_of(alloc: Global, one: &[u8], other: &[u8]) -> Result<Option<usize>, Fa
 /// Two files at a start, in either order, and after how many steps they are, or why they are refused. `front` has no block; `old`,
 /// `new` and `newer` are of one generation each, after 2, 3 and 5 steps; `begun` and `zeros` are what a crash left of a first
 /// write. Of `new` a crash within `renew` leaves `unmarked`, whole but not switched to, and `torn` and `early`, which isn't whole
-/// yet. Damage makes of it `flipped`, `short` and `lost`.
+/// yet. Damage makes of it `flipped`, `short` and `lost`, and of `newer` `gone`. To `front` came a mark that an earlier server had
+/// under way: `late`.
 const FILES: &str = "
 empty empty -> 0
 empty front -> 0
@@ -172,8 +173,15 @@ front torn -> 0
 old flipped -> Damaged
 old short -> Damaged
 old lost -> Damaged
-newer flipped -> Damaged
+newer flipped -> 5
+newer lost -> 5
+new gone -> 3
 empty lost -> Damaged
+new late -> 3
+newer late -> 5
+old late -> Damaged
+front late -> Damaged
+empty late -> Damaged
 old old -> Foreign
 new new -> Foreign
 new unmarked -> Foreign
@@ -185,6 +193,13 @@ empty other -> Foreign
 fn set(bytes: &mut [u8], place: usize, byte: u8) {
     if let Some(old) = bytes.get_mut(place) {
         *old = byte;
+    }
+}
+
+// A mark comes late, which says that the blocks reached so far.
+fn mark(bytes: &mut [u8], reached: u64) {
+    if let Some(place) = bytes.get_mut(56..72) {
+        place.copy_from_slice(&twice_bytes(reached));
     }
 }
 
@@ -203,7 +218,7 @@ fn change(name: &str, new: &mut Vec<u8>) {
         "begun" => new.truncate(31),
         "short" => new.truncate(len.saturating_sub(4)),
         "flipped" => set(new, len.saturating_sub(2), b'E'),
-        "lost" => zero(new, 72, len),
+        "lost" | "gone" => zero(new, 72, len),
         _ => zero(new, 24, 72),
     }
     match name {
@@ -223,15 +238,19 @@ fn change(name: &str, new: &mut Vec<u8>) {
 pub fn file(alloc: Global, name: &str) -> Result<Vec<u8>, Fail> {
     let steps = match name {
         "old" => 2,
-        "newer" => 5,
+        "newer" | "gone" => 5,
         _ => 3,
     };
-    let (mut counts, spare) = files(alloc, steps)?;
+    let (mut counts, mut spare) = files(alloc, steps)?;
     match name {
         "empty" => Ok(Vec::new(alloc)),
         "zeros" => Ok(Vec::from_slice(alloc, &[0; 16])?),
         "other" => Ok(Vec::from_slice(alloc, &[b'v'; 200])?),
         "front" => Ok(spare),
+        "late" => {
+            mark(&mut spare, 200);
+            Ok(spare)
+        }
         _ => {
             change(name, &mut counts);
             Ok(counts)

@@ -2,9 +2,10 @@ use Rattle.std.proofs.Common.{List, ℕ, replicate, subst, sym, refl, inl, arith
 use Rattle.sqlite_disk.specs.Disk.{Holds, Only}
 use Rattle.dav_journal.proofs.BlockLemmas.{blocks_le}
 use Rattle.dav_journal.proofs.FrontLemmas.{all_blank, cleared_left, read_cleared}
-use Rattle.dav_journal.proofs.MarkLemmas.{KeepsOthers, blank_mark, torn_others}
+use Rattle.dav_journal.proofs.MarkLemmas.{blank_mark, torn_others}
 use Rattle.dav_journal.specs.Journal.{HasFront}
-use Rattle.dav_journal.proofs.ClearLemmas.{others_has}
+use Rattle.dav_journal.specs.Mark.{KeepsOthers}
+use Rattle.dav_journal.proofs.ClearLemmas.{cleared_behind, others_has}
 use Rattle.dav_journal.proofs.journal.Journal.clear_all.Goals as goal
 
 pub returns-in_err-write_at-clause-any_moment : goal.returns-in_err-write_at-clause-any_moment
@@ -21,6 +22,21 @@ pub returns-clause-any_moment : goal.returns-clause-any_moment
 returns-clause-any_moment g c mixing contents leaves left may =
     let (before, was, step) = c.write_at.ensures.mixed mixing (omega arith) left (c.sync.ensures.crash left may) in
     cleared_left 24 48 before left contents (omega arith) (omega arith) (leaves before was) step
+
+pub returns-in_err-write_at-clause-behind : goal.returns-in_err-write_at-clause-behind
+returns-in_err-write_at-clause-behind g c mixing generation leaves left may =
+    let (before, was, step) = c.write_at.ensures.mixed mixing (omega arith) left may in
+    cleared_behind generation before left (leaves before was) step
+
+pub returns-in_err-sync-clause-behind : goal.returns-in_err-sync-clause-behind
+returns-in_err-sync-clause-behind g c mixing generation leaves left may =
+    let (before, was, step) = c.write_at.ensures.mixed mixing (omega arith) left (c.sync.ensures.crash left may) in
+    cleared_behind generation before left (leaves before was) step
+
+pub returns-clause-behind : goal.returns-clause-behind
+returns-clause-behind g c mixing generation leaves left may =
+    let (before, was, step) = c.write_at.ensures.mixed mixing (omega arith) left (c.sync.ensures.crash left may) in
+    cleared_behind generation before left (leaves before was) step
 
 pub returns-clause-cleared : goal.returns-clause-cleared
 returns-clause-cleared g c contents r =

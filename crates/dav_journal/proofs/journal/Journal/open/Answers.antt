@@ -20,13 +20,13 @@ returns-in_default-clause-any_moment g c clean contents leaves =
     absurd (c.in_default.ensures.none r.key r.small (same_held (g.D.Disk.seen j.disk) 0 c.read_at.new.buf (front_of r.key) held r.front (size ∙ sym (length-front r.key))))
 
 pub returns-then-len-le-START-clause-stands : goal.returns-then-len-le-START-clause-stands
-returns-then-len-le-START-clause-stands g c clean contents r =
+returns-then-len-le-START-clause-stands g c clean is =
     let j = c.args.self.now in
-    absurd (omega (arith, recovers_long (g.D.Disk.seen j.disk) contents r, c.in_ok-len.ensures.len (c.make.ensures.clean clean), ap length c.sync.ensures.seen, c.if-len-le-START.true))
+    absurd (omega (arith, is.has.more, c.in_ok-len.ensures.len (c.make.ensures.clean clean), ap length c.sync.ensures.seen, c.if-len-le-START.true))
 
 pub returns-in_default-clause-stands : goal.returns-in_default-clause-stands
-returns-in_default-clause-stands g c clean contents r =
+returns-in_default-clause-stands g c clean is =
     let j = c.args.self.now in
     let size : length c.read_at.new.buf ≡ 24 = search rules in
     let held : Holds (g.D.Disk.seen j.disk) 0 c.read_at.new.buf = subst (λ f. Holds f 0 c.read_at.new.buf) (c.len.ensures.seen ∙ c.sync.ensures.seen) (c.in_ok-read_at.ensures.read (c.make-in_default.ensures.clean clean) (search rules)) in
-    absurd (c.in_default.ensures.none r.key r.small (same_held (g.D.Disk.seen j.disk) 0 c.read_at.new.buf (front_of r.key) held r.front (size ∙ sym (length-front r.key))))
+    absurd (c.in_default.ensures.none is.key is.small (same_held (g.D.Disk.seen j.disk) 0 c.read_at.new.buf (front_of is.key) held is.has.front (size ∙ sym (length-front is.key))))

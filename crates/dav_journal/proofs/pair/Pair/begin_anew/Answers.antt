@@ -3,7 +3,7 @@ use Rattle.std.proofs.lemmas.Result.{on_ok_weaker}
 use Rattle.std.specs.Int.{w64, to_be_bytes}
 use Rattle.dav_journal.specs.File.{Recovers}
 use Rattle.dav_journal.specs.Journal.{IsKept}
-use Rattle.dav_journal.proofs.PairLemmas.{kept_opened, kept_recovers, next_is_older, pair_alone, pair_renewed, turned}
+use Rattle.dav_journal.proofs.PairLemmas.{kept_opened, kept_recovers, older_behind, pair_alone, pair_renewed, turned}
 use Rattle.dav_journal.proofs.pair.Pair.begin_anew.Given as given
 use Rattle.dav_journal.proofs.pair.Pair.begin_anew.Goals as goal
 
@@ -19,8 +19,8 @@ returns-in_err-keep_both-clause-any_moment g c clean contents kept left other ma
     let next : c.in-Some.generation ≡ p.generation + 1 = omega arith in
     elim (c.keep_both.ensures.any_moment [] kept.spare other might) [
       | inl none ↦ inl (pair_alone left other p.generation contents kept.small counts none)
-      | inr block ↦ inr (turned other left (c.args.content.now ∷ []) (pair_renewed other left c.in-Some.generation c.args.content.now _ (omega arith)
-          (subst (λ (b : List ℕ). Recovers other (b ∷ [])) (ap (λ (l : List ℕ). l ++ c.args.content.now) c.to_be_bytes.ensures) block) counts (next_is_older p.generation c.in-Some.generation contents next)))
+      | inr block ↦ inr (turned other left (c.args.content.now ∷ []) (pair_renewed other left c.in-Some.generation c.args.content.now (omega (arith, next)) (omega arith)
+          (subst (λ (b : List ℕ). Recovers other (b ∷ [])) (ap (λ (l : List ℕ). l ++ c.args.content.now) c.to_be_bytes.ensures) block) (older_behind p.generation c.in-Some.generation left contents (omega (arith, next)) counts)))
     ]
 
 pub returns-in_err-keep_mark-clause-any_moment : goal.returns-in_err-keep_mark-clause-any_moment
@@ -29,8 +29,8 @@ returns-in_err-keep_mark-clause-any_moment g c clean contents kept left other ma
     let counts = kept_recovers g.D.Disk p.counts _ kept.kept left may in
     let next : c.in-Some.generation ≡ p.generation + 1 = omega arith in
     let block = c.keep_mark.ensures.any_moment _ (c.in_ok-keep_both.ensures.kept [] kept.spare) other might in
-    inr (turned other left (c.args.content.now ∷ []) (pair_renewed other left c.in-Some.generation c.args.content.now _ (omega arith)
-    (subst (λ (b : List ℕ). Recovers other (b ∷ [])) (ap (λ (l : List ℕ). l ++ c.args.content.now) c.to_be_bytes.ensures) block) counts (next_is_older p.generation c.in-Some.generation contents next)))
+    inr (turned other left (c.args.content.now ∷ []) (pair_renewed other left c.in-Some.generation c.args.content.now (omega (arith, next)) (omega arith)
+    (subst (λ (b : List ℕ). Recovers other (b ∷ [])) (ap (λ (l : List ℕ). l ++ c.args.content.now) c.to_be_bytes.ensures) block) (older_behind p.generation c.in-Some.generation left contents (omega (arith, next)) counts)))
 
 -- the file that counts now
 now_kept : (g : given.Over) (c : goal.After-clear g) → IsKept g.D.Disk c.args.self.now.spare [] → IsKept g.D.Disk c.turn.new.self.counts ((to_be_bytes w64 c.in-Some.generation ++ c.args.content.now) ∷ [])
@@ -55,7 +55,6 @@ returns-clause-any_moment g c clean contents kept left other may might =
     let next : c.in-Some.generation ≡ p.generation + 1 = omega arith in
     let counts = kept_recovers g.D.Disk c.turn.new.self.counts _ (now_kept g c kept.spare) left may in
     let was = was_kept g c _ kept.kept in
-    elim (c.clear.ensures.any_moment (clean.1) (kept_opened g.D.Disk c.turn.new.self.spare _ was) _ (kept_recovers g.D.Disk c.turn.new.self.spare _ was) other might) [
-      | inl all ↦ inr (pair_renewed left other c.in-Some.generation c.args.content.now _ (omega arith) counts all (next_is_older p.generation c.in-Some.generation contents next))
-      | inr none ↦ inr (pair_renewed left other c.in-Some.generation c.args.content.now [] (omega arith) counts none tt)
-    ]
+    let behind = c.clear.ensures.behind (clean.1) (kept_opened g.D.Disk c.turn.new.self.spare _ was) c.in-Some.generation
+    (λ file before. older_behind p.generation c.in-Some.generation file contents (omega (arith, next)) (kept_recovers g.D.Disk c.turn.new.self.spare _ was file before)) other might in
+    inr (pair_renewed left other c.in-Some.generation c.args.content.now (omega (arith, next)) (omega arith) counts behind)

@@ -1,7 +1,7 @@
-use Rattle.std.proofs.Common.{◌≡◌, [], Err, ap, ◌∙◌, sym}
+use Rattle.std.proofs.Common.{◌≡◌, ◌≢◌, [], Err, ap, ◌∙◌, sym}
 use Rattle.std.proofs.lemmas.Result.{IfOk-weaker}
 use Rattle.dav_journal.proofs.LookLemmas.{first_of}
-use Rattle.dav_journal.proofs.PairLemmas.{each_stands, ends_first}
+use Rattle.dav_journal.proofs.PairLemmas.{ends_first, later_stands}
 use Rattle.dav_journal.proofs.pair.Pair.follow.Goals as goal
 
 pub returns-then-len-eq-START-clause-read : goal.returns-then-len-eq-START-clause-read
@@ -21,4 +21,5 @@ returns-in-Err-Damaged-clause-damaged g c other is clean contents reading =
     let same = c.see_missing.ensures.place other is in
     let cleaned = c.see_missing.ensures.looks.counts.reads.clean (clean.0) in
     let (placed, nothing) = c.next_whole.ensures.damaged c.in-Err-Damaged.place (c.in-Err-Damaged.is ∙ ap Err c.in-Err-Damaged.field-0-is) cleaned _ reading.reading in
-    (same ∙ placed, λ others stands. let (blocks, r) = (each_stands _ _ others stands).0 in nothing blocks r)
+    let far : c.args.self.now.counts.end ≢ 72 = λ here. c.if-len-eq-START.false (c.len.ensures ∙ here) in
+    (same ∙ placed, λ others stands. let (blocks, r) = later_stands g.D.Disk c.args.self.now contents others far reading stands in nothing blocks r)

@@ -3,7 +3,7 @@ use Rattle.std.proofs.lemmas.Result.{IfOk-weaker}
 use Rattle.dav_journal.specs.Journal.{IsReading}
 use Rattle.dav_journal.specs.Block.{AreBlocks}
 use Rattle.dav_journal.specs.Pair.{HasReadPair, IsReadingPair, with_generation}
-use Rattle.dav_journal.proofs.PairLemmas.{each_stands, ends_first, ends_later, match_weaker}
+use Rattle.dav_journal.proofs.PairLemmas.{ends_first, ends_later, later_stands, match_weaker}
 use Rattle.dav_journal.proofs.pair.Pair.next.Goals as goal
 
 pub returns-then-len-eq-START-clause-read : goal.returns-then-len-eq-START-clause-read
@@ -37,4 +37,6 @@ returns-clause-read g c = IfOk-weaker c.next.result _ _ (λ block next clean con
 pub returns-clause-damaged : goal.returns-clause-damaged
 returns-clause-damaged g c place is clean mixing contents reading =
     let (placed, nothing) = c.next.ensures.damaged place is (clean.0) (mixing.0) _ reading.reading in
-    (placed, λ others stands. let (blocks, r) = (each_stands _ _ others stands).0 in nothing blocks r)
+    let p = c.args.self.now in
+    let far : p.counts.end ≢ 72 = λ here. c.if-len-eq-START.false (c.len.ensures ∙ here) in
+    (placed, λ others stands. let (blocks, r) = later_stands g.D.Disk p contents others far reading stands in nothing blocks r)
