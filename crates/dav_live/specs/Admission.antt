@@ -19,7 +19,7 @@ use Rattle.dav_shards.specs.Shards.{IsElsewhere}
 use Rattle.dav_shards.specs.declared.parts.Part.{Part}
 use Rattle.dav_shards.specs.declared.parts.Part.TheVariants.{Target, Destination, Condition}
 use Rattle.dav_live.specs.Clock.{moment_after}
-use Rattle.dav_live.specs.Hosts.{TellsFor, asked_host, value_of}
+use Rattle.dav_live.specs.Hosts.{AsksBadPort, TellsFor, asked_host, value_of}
 use Rattle.dav_live.specs.Numbered.{HasNumber}
 use Rattle.dav_live.specs.Rejections.{IsSafe}
 use Rattle.dav_live.specs.Tokens.{token_text}
@@ -29,7 +29,7 @@ use Rattle.dav_live.specs.declared.admission.Admitted.{Admitted}
 use Rattle.dav_live.specs.declared.admission.Decision.{Decision}
 use Rattle.dav_live.specs.declared.admission.Decision.TheVariants.{Look, Refused, Run}
 use Rattle.dav_live.specs.declared.admission.Reason.{Reason}
-use Rattle.dav_live.specs.declared.admission.Reason.TheVariants.{Misdirected, Unauthorized, Forbidden, Elsewhere, TooLong, Outside, ReadOnly, TooFar, Swollen}
+use Rattle.dav_live.specs.declared.admission.Reason.TheVariants.{BadPort, Misdirected, Unauthorized, Forbidden, Elsewhere, TooLong, Outside, ReadOnly, TooFar, Swollen}
 
 -- What a server goes by: the prefix of its paths, the names of its host, the most seconds for which a lock is granted, whether a PROPFIND
 -- without a Depth is left to the machine, whether requests may only read, its users, if it has a list of them, the rules of access, if it
@@ -72,8 +72,9 @@ users_for a r = if is_some a.rules && is_none (value_of (codes "authorization") 
 abbrev pub IsMadeBy : AdmissionView → Request → Option (List ℕ) → Type 0
 IsMadeBy a r user = IsPrincipal (users_for a r) (value_of (codes "authorization") r) user
 
--- a request is for this server (RFC 9110, section 7.2), and is of this user, or of nobody
+-- a request is for this server (RFC 9110, section 7.2), with a port that can be, and is of this user, or of nobody
 pub record IsLetIn (a : AdmissionView) (r : Request) (user : Option (List ℕ)) : Type 0 where
+  pub port : ¬ AsksBadPort (asked_host r)
   pub host : TellsFor a.hosts (asked_host r) true
   pub principal : IsMadeBy a r user
 
@@ -115,14 +116,16 @@ IsClosedTo a r = (a.read_only ≡ true) × ¬ IsSafe r.method
 abbrev pub HasSwollenBody : Request → List ℕ → Type 0
 HasSwollenBody r body = TakesTree r.method × IsSwollen body
 
--- A request isn't run, for the first of these reasons that applies: it is for another host (RFC 9110, section 7.4); no user is shown, but this
+-- A request isn't run, for the first of these reasons that applies: it is for a port that can't be (RFC 9112,
+-- section 3.2); it is for another host (RFC 9110, section 7.4); no user is shown, but this
 -- name (RFC 9110, section 15.5.2); its body would be read as far more than it is (section 15.5.14); its paths have too many slashes; its target
 -- isn't below the prefix; requests may only read; what would be run of it has no leave, and may not look either (RFC 9110, section 15.5.4); this
 -- part of it names what is elsewhere (RFC 9110, section 15.5.20; RFC 4918, sections 9.8.5, 9.9.4 and 10.4); it begins to write past what a body
 -- may have (RFC 9110, section 15.5.14). With it the user.
 pub data IsTurnedAway (a : AdmissionView) (r : Request) (body : List ℕ) : Reason → List ℕ → Type 0 where
-  misdirected : TellsFor a.hosts (asked_host r) false → IsTurnedAway a r body Misdirected []
-  unknown : (shown : List ℕ) → TellsFor a.hosts (asked_host r) true
+  bad_port : AsksBadPort (asked_host r) → IsTurnedAway a r body BadPort []
+  misdirected : ¬ AsksBadPort (asked_host r) → TellsFor a.hosts (asked_host r) false → IsTurnedAway a r body Misdirected []
+  unknown : (shown : List ℕ) → ¬ AsksBadPort (asked_host r) → TellsFor a.hosts (asked_host r) true
       → ShowsNoUser (users_for a r) (value_of (codes "authorization") r) shown → IsTurnedAway a r body Unauthorized shown
   swollen : (user : Option (List ℕ)) → IsLetIn a r user → HasSwollenBody r body → IsTurnedAway a r body Swollen (unwrap_or user [])
   too_long : (user : Option (List ℕ)) → IsLetIn a r user → ¬ HasSwollenBody r body → HasManySlashes r → IsTurnedAway a r body TooLong (unwrap_or user [])
@@ -204,8 +207,9 @@ status_elsewhere Target = 421
 status_elsewhere Destination = 502
 status_elsewhere Condition = 412
 
--- the status of a reason (RFC 9110, sections 15.5.2, 15.5.4, 15.5.5, 15.5.13, 15.5.14, 15.5.15, 15.5.20 and 15.6.3)
+-- the status of a reason (RFC 9110, sections 15.5.1, 15.5.2, 15.5.4, 15.5.5, 15.5.13, 15.5.14, 15.5.15, 15.5.20 and 15.6.3)
 abbrev pub status_of : Reason → ℕ
+status_of BadPort = 400
 status_of Misdirected = 421
 status_of Unauthorized = 401
 status_of Forbidden = 403

@@ -1,7 +1,8 @@
 -- The names by which a server may be asked for (RFC 9110, section 7.2).
-use Rattle.std.specs.Prelude.{◌≡◌, ℕ, ◌≤◌, ◌+◌, ◌==◌, List, [], ◌∷◌, ◌++◌, All, Bool, true, bytes_eq, codes, drop, if◌then◌else◌, length, position, take, unwrap_or, Option, Some, None}
+use Rattle.std.specs.Prelude.{◌≡◌, ◌⊎◌, ℕ, ◌≤◌, ◌+◌, ◌==◌, List, [], ◌∷◌, ◌++◌, All, Bool, true, bytes_eq, codes, drop, if◌then◌else◌, length, position, take, unwrap_or, Option, Some, None}
 use Rattle.std.specs.List.{list_any, slice_get}
 use Rattle.std.specs.Option.{option_and_then, option_or}
+use Rattle.dav_headers.specs.Value.{IsNumber}
 use Rattle.dav_server.specs.Head.{Request, is_same_name, values_of}
 
 -- the value of the first field with this name, if a request has one (RFC 9110, section 5.1)
@@ -16,6 +17,14 @@ AreDigits text = All (λ b. (48 ≤ b) × (b ≤ 57)) text
 pub data IsHostOf (authority : List ℕ) : List ℕ → Type 0 where
   before_port : (host port : List ℕ) → authority ≡ host ++ 58 ∷ port → AreDigits port → IsHostOf authority host
   alone : ((host port : List ℕ) → authority ≡ host ++ 58 ∷ port → ¬ AreDigits port) → IsHostOf authority authority
+
+-- digits are a port: none, or a number of at most 65,535 (RFC 3986, section 3.2.3; RFC 6335, section 6)
+abbrev pub IsPort : List ℕ → Type 0
+IsPort digits = (digits ≡ []) ⊎ ((n : ℕ) × IsNumber digits n × (n ≤ 65535))
+
+-- an authority has digits as its port that are none
+abbrev pub HasBadPort : List ℕ → Type 0
+HasBadPort authority = (host : List ℕ) × (port : List ℕ) × (authority ≡ host ++ 58 ∷ port) × AreDigits port × (¬ IsPort port)
 
 -- a machine's own names
 abbrev pub own_names : List (List ℕ)
@@ -47,6 +56,12 @@ authority_in target =
 -- for which host a request is: that of its target in absolute form, and else that of Host (RFC 9112, section 3.2.2)
 abbrev pub asked_host : Request → Option (List ℕ)
 asked_host r = option_or (authority_in r.target) (value_of (codes "host") r)
+
+-- a request for this host is for a port that can't be: the value of its Host, or its target, is invalid (RFC 9110, section 7.2; RFC 9112,
+-- section 3.2)
+abbrev pub AsksBadPort : Option (List ℕ) → Type 0
+AsksBadPort None = ⊥
+AsksBadPort (Some authority) = HasBadPort authority
 
 -- This says whether a request for this host is for this machine, or for one of these hosts; one without a Host is (RFC 9110, section 7.2;
 -- RFC 9112, section 3.2).

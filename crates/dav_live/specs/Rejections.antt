@@ -8,8 +8,8 @@ use Rattle.dav_server.specs.Head.{Request, is_same_name}
 use Rattle.dav_server.specs.Method.{GivesServed}
 use Rattle.dav_server.specs.TagLaws.{is_safe}
 use Rattle.dav_wire.specs.declared.answer.Rejection.{Rejection}
-use Rattle.dav_wire.specs.declared.answer.Rejection.TheVariants.{Forbidden, Misdirected, NotImplemented, UnsupportedMediaType}
-use Rattle.dav_live.specs.Hosts.{TellsFor, asked_host, value_of}
+use Rattle.dav_wire.specs.declared.answer.Rejection.TheVariants.{BadRequest, Forbidden, Misdirected, NotImplemented, UnsupportedMediaType}
+use Rattle.dav_live.specs.Hosts.{AsksBadPort, TellsFor, asked_host, value_of}
 
 -- ---- where a request comes from
 
@@ -76,11 +76,13 @@ pub data IsBodyRefused (r : Request) : Rejection → Type 0 where
   bodiless : (m : DavMethod) → GivesServed r.method (Ok m) → takes_body m ≡ false → ¬ StatesAtMost 0 r → IsBodyRefused r UnsupportedMediaType
 
 -- A request with this head isn't taken, for this reason: a page of another origin may only read; and no body is taken of a request for
--- another host (RFC 9110, section 7.4), or by its method.
+-- a port that can't be (RFC 9112, section 3.2), or another host (RFC 9110, section 7.4), or by its method.
 pub data IsUntaken (hosts : List (List ℕ)) (r : Request) : Rejection → Type 0 where
   forged : IsForged r → IsUntaken hosts r Forbidden
-  misdirected : ¬ IsForged r → MayHaveMore 0 r → TellsFor hosts (asked_host r) false → IsUntaken hosts r Misdirected
-  body : {why : Rejection} → ¬ IsForged r → MayHaveMore 0 r → TellsFor hosts (asked_host r) true → IsBodyRefused r why
+  bad_port : ¬ IsForged r → MayHaveMore 0 r → AsksBadPort (asked_host r) → IsUntaken hosts r BadRequest
+  misdirected : ¬ IsForged r → MayHaveMore 0 r → ¬ AsksBadPort (asked_host r) → TellsFor hosts (asked_host r) false
+      → IsUntaken hosts r Misdirected
+  body : {why : Rejection} → ¬ IsForged r → MayHaveMore 0 r → ¬ AsksBadPort (asked_host r) → TellsFor hosts (asked_host r) true → IsBodyRefused r why
       → IsUntaken hosts r why
 
 -- this says why no body is taken of a request for this host; none where one is

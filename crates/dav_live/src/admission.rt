@@ -12,7 +12,7 @@ mod login;
 
 use crate::clock::moment_after;
 use crate::full::fill_past;
-use crate::hosts::is_for;
+use crate::hosts::{asks_bad_port, is_for};
 use crate::limits::joined;
 use crate::lists::{Lists, ListsError, texts_in};
 use crate::settings::Settings;
@@ -40,6 +40,8 @@ const MOST_SLASHES: usize = 1024;
 /// Why a request isn't run.
 #[derive(Clone, Copy, Debug, PartialEq, Eq)]
 pub enum Reason {
+    /// It is for a host with a port that can't be (400).
+    BadPort,
     /// It is for another host (421).
     Misdirected,
     /// It doesn't show a user, and has no leave else (401).
@@ -61,11 +63,13 @@ pub enum Reason {
 }
 
 impl Reason {
-    /// The status of the response (RFC 9110, sections 15.5.2, 15.5.4, 15.5.5, 15.5.13, 15.5.14, 15.5.15, 15.5.20 and 15.6.3).
+    /// The status of the response (RFC 9110, sections 15.5.1, 15.5.2, 15.5.4, 15.5.5, 15.5.13, 15.5.14, 15.5.15, 15.5.20 and
+    /// 15.6.3).
     pub fn status(self) -> StatusCode
         ensures { result ≡ status_of self }
     {
         match self {
+            Reason::BadPort => StatusCode::BAD_REQUEST,
             Reason::Misdirected => StatusCode::MISDIRECTED_REQUEST,
             Reason::Unauthorized => StatusCode::UNAUTHORIZED,
             Reason::Forbidden | Reason::ReadOnly => StatusCode::FORBIDDEN,
@@ -327,6 +331,9 @@ impl Admission {
         ensures same { self.new ≡ self.old }
         ensures decision { IfOk result (IsDecision self.old tokens head.now body.now) }
     {
+        if asks_bad_port(head) {
+            return Ok(refused(Reason::BadPort, String::new(self.alloc)));
+        }
         if !is_for(head, &self.settings.hosts) {
             return Ok(refused(Reason::Misdirected, String::new(self.alloc)));
         }

@@ -4,10 +4,14 @@ ghost use Rattle.std.specs.Bool.{Decides};
 ghost use Rattle.std.specs.List.{list_any};
 ghost use Rattle.dav_headers.specs.Cut.{IsCut};
 ghost use Rattle.dav_server.specs.Head.{is_same_name};
-ghost use Rattle.dav_live.specs.Hosts.{AreDigits, IsHostOf, TellsFor, TellsNamed, asked_host, authority_after, authority_in, own_names, place_of, up_to_slash};
+ghost use Rattle.dav_live.specs.Hosts.{AreDigits, AsksBadPort, HasBadPort, IsHostOf, IsPort, TellsFor, TellsNamed, asked_host, authority_after, authority_in, own_names, place_of, up_to_slash};
 ghost use Rattle.dav_live.specs.Rejections.{HasAuthority, IsOfHost, IsOwnOrigin};
 
+use crate::numbers::is_at_most;
 use dav_http::Head;
+
+/// The most that a port can be (RFC 6335, section 6).
+const MOST_PORT: u64 = 65_535;
 
 // Whether these are digits.
 fn are_digits(text: &[u8]) -> bool
@@ -33,6 +37,23 @@ fn host_of(authority: &[u8]) -> &[u8]
         return authority;
     };
     if are_digits(port) { host } else { authority }
+}
+
+// Whether digits are a port: none, or a number that isn't too large (RFC 3986, section 3.2.3).
+fn is_port(digits: &[u8]) -> bool
+    ensures { Decides result (IsPort digits.now) }
+{
+    digits.is_empty() || is_at_most(digits, MOST_PORT)
+}
+
+// Whether an authority has digits as its port that are none.
+fn has_bad_port(authority: &[u8]) -> bool
+    ensures { Decides result (HasBadPort authority.now) }
+{
+    match split_at_colon(authority) {
+        Some((_, port)) => are_digits(port) && !is_port(port),
+        None => false,
+    }
 }
 
 // Whether two names are one.
@@ -118,6 +139,16 @@ fn asked_host<'h>(head: &'h Head<'_>) -> Option<&'h [u8]>
     match authority_in(head.target().as_bytes()) {
         Some(authority) => Some(authority),
         None => head.value("host"),
+    }
+}
+
+/// Whether a request is for a host with a port that can't be: one of more than 65,535 (RFC 9112, section 3.2).
+pub fn asks_bad_port(head: &Head<'_>) -> bool
+    ensures { Decides result (AsksBadPort (asked_host head.now)) }
+{
+    match asked_host(head) {
+        Some(authority) => has_bad_port(authority),
+        None => false,
     }
 }
 

@@ -19,6 +19,7 @@ mod lists;
 mod live;
 mod locked;
 mod machine;
+mod numbers;
 mod page;
 mod rejection;
 mod room;

@@ -1,19 +1,18 @@
 //! Which requests aren't taken, by their heads alone (RFC 9110, section 15.5).
-ghost use Rattle.std.specs.Prelude.{◌≡◌, ◌≢◌, ◌≤◌, ◌⊎◌, ℕ, IsTrue, None, Ok, codes, map, string_bytes, take};
+ghost use Rattle.std.specs.Prelude.{◌≡◌, ◌≢◌, ◌⊎◌, IsTrue, None, Ok, codes, map, string_bytes, take};
 ghost use Rattle.std.specs.Bool.{Decides};
 ghost use Rattle.dav_core.specs.declared.method.DavMethod.{DavMethod as DavMethodValue};
-ghost use Rattle.dav_headers.specs.Value.{Decodes, IsNumber};
 ghost use Rattle.dav_server.specs.Head.{IsHead, Request};
 ghost use Rattle.dav_server.specs.Method.{GivesServed};
 ghost use Rattle.dav_live.specs.Hosts.{value_of};
 ghost use Rattle.dav_live.specs.Rejections as spec;
 
-use crate::hosts::{is_for, is_own_origin};
+use crate::hosts::{asks_bad_port, is_for, is_own_origin};
+use crate::numbers::is_at_most;
 use dav_core::method::DavMethod;
 use dav_http::{Head, is_safe};
 use dav_server::method::method_of;
 use dav_wire::Rejection;
-use std::str;
 
 /// The most bytes of a body that are taken of nobody who is known.
 const MOST_UNKNOWN: u64 = 4_096;
@@ -60,29 +59,6 @@ pub fn is_plain_read(head: &[u8]) -> bool
         return false;
     }
     begins_to_read(head)
-}
-
-// The number that digits write, below 2^64. `parse` would take a plus sign before them.
-fn number(text: &[u8]) -> Option<u64>
-    ensures { Decodes IsNumber text.now result }
-{
-    if text.first() == Some(&b'+') {
-        return None;
-    }
-    match str::from_utf8(text) {
-        Ok(text) => text.parse::<u64>().ok(),
-        Err(_) => None,
-    }
-}
-
-// Whether the value of a Content-Length is a number of so many at most (RFC 9110, section 8.6).
-fn is_at_most(value: &[u8], most: u64) -> bool
-    ensures { Decides result ((n : ℕ) × IsNumber value.now n × (n ≤ most)) }
-{
-    match number(value) {
-        Some(len) => len <= most,
-        None => false,
-    }
 }
 
 // Whether a head states a body of so many bytes at most, or no length (RFC 9112, section 6.2).
@@ -151,7 +127,7 @@ fn body_rejection(head: &Head<'_>) -> Option<Rejection>
 }
 
 /// Why a request isn't taken, if it isn't: a page of another origin may only read (RFC 6454); and no body is taken of a request
-/// for another server, with a method that isn't served, or with one that takes none. All else is left to the answer.
+/// for a host with a port that can't be, for another server, with a method that isn't served, or with one that takes none. All else is left to the answer.
 pub fn rejection_of(head: &Head<'_>, hosts: &[String]) -> Option<Rejection>
     ensures { spec.TellsUntaken (map string_bytes hosts.now) head.now result }
 {
@@ -160,6 +136,9 @@ pub fn rejection_of(head: &Head<'_>, hosts: &[String]) -> Option<Rejection>
     }
     if !may_have_more(head, 0) {
         return None;
+    }
+    if asks_bad_port(head) {
+        return Some(Rejection::BadRequest);
     }
     if !is_for(head, hosts) {
         return Some(Rejection::Misdirected);

@@ -4,7 +4,7 @@ use Rattle.std.proofs.lemmas.List.{map_push}
 use Rattle.bytes.specs.declared.unique.BytesMut.{BytesMut}
 use Rattle.http_server.specs.Exchange.{continue_text}
 use Rattle.dav_wire.specs.declared.answer.Rejection.{Rejection}
-use Rattle.dav_wire.specs.declared.answer.Rejection.TheVariants.{Unauthorized, Forbidden, UnsupportedMediaType, Misdirected, TooManyRequests, NotImplemented, Unavailable}
+use Rattle.dav_wire.specs.declared.answer.Rejection.TheVariants.{BadRequest, Unauthorized, Forbidden, UnsupportedMediaType, Misdirected, TooManyRequests, NotImplemented, Unavailable}
 use Rattle.dav_wire.specs.declared.line.Line.{Line}
 use Rattle.dav_wire.specs.declared.state.Reason.TheVariants.{Rejected}
 use Rattle.dav_wire.specs.Exchange.{Judgement, passed}
@@ -16,6 +16,7 @@ use Rattle.dav_wire.proofs.Runs.{holds_open, reaches_over, rebased, aborts, reje
 
 -- the connection answers each of these statuses with itself
 pub known_rejection : (why : Rejection) → known_status (rejection_status why) ≡ rejection_status why
+known_rejection BadRequest = refl
 known_rejection Unauthorized = refl
 known_rejection Forbidden = refl
 known_rejection UnsupportedMediaType = refl

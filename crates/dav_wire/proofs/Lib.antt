@@ -5,5 +5,6 @@ pub mod LawAnswers
 pub mod RefusalAnswers
 pub mod Replies
 pub mod Runs
+pub mod SpotLemmas
 pub mod Steps
 pub mod Streams

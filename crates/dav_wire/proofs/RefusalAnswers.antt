@@ -1,7 +1,7 @@
 -- The connection's own responses are read by the client.
-use Rattle.std.proofs.Common.{◌≡◌, ℕ, ◌⊎◌, Bool, true, false, cond, List, [], None, Ok, refl, sym, ap, ◌∙◌, subst, arith, append-nil, inl, inr}
+use Rattle.std.proofs.Common.{◌≡◌, ℕ, ◌⊎◌, Bool, true, false, cond, [], None, Ok, refl, sym, ap, ◌∙◌, subst, arith, inl, inr}
 use Rattle.std.specs.Fmt.{digits}
-use Rattle.httparse.specs.Grammar.{trim_ows, is_token_byte, ReadsResponse}
+use Rattle.httparse.specs.Grammar.{trim_ows, is_token_byte}
 use Rattle.http1.specs.declared.conn.Limits.{Limits}
 use Rattle.http1.specs.declared.error.ReadError.{ReadError}
 use Rattle.http1.specs.declared.error.ReadError.TheVariants as read
@@ -20,7 +20,7 @@ use Rattle.http1.specs.Text.{eq_ignore_case}
 use Rattle.http1.proofs.HeadRoundTrip.{response_reads_back}
 use Rattle.http1_typed.specs.Parts.{reason_of}
 use Rattle.dav_wire.specs.declared.answer.Rejection.{Rejection}
-use Rattle.dav_wire.specs.declared.answer.Rejection.TheVariants.{Unauthorized, Forbidden, UnsupportedMediaType, Misdirected, TooManyRequests, NotImplemented, Unavailable}
+use Rattle.dav_wire.specs.declared.answer.Rejection.TheVariants.{BadRequest, Unauthorized, Forbidden, UnsupportedMediaType, Misdirected, TooManyRequests, NotImplemented, Unavailable}
 use Rattle.dav_wire.specs.declared.state.Refusal.{Refusal}
 use Rattle.dav_wire.specs.declared.state.Refusal.TheVariants.{Truncated, Unreadable, BodyTooLong, UnknownCoding, NoRoom}
 use Rattle.dav_wire.specs.Laws.{IsReadAsLast, RefusalsAreRead}
@@ -261,6 +261,7 @@ refusal_is_read method UnknownCoding = read_501 method
 refusal_is_read method (NoRoom room) = read_503 method
 
 rejection_is_read : (method : MethodKind) (why : Rejection) → IsReadAsLast method (rejection_status why)
+rejection_is_read method BadRequest = read_400 method
 rejection_is_read method Unauthorized = read_401 method
 rejection_is_read method Forbidden = read_403 method
 rejection_is_read method UnsupportedMediaType = read_415 method

@@ -33,13 +33,13 @@ pub record History : Type 0 where
   -- all that was sent, and what waits for that
   pub sent : List ℕ
   pub pending : List ℕ
-  -- of the request that is being read: how long its head states its body to be, if it does, and
-  -- what of that body was taken
+  -- of the request that is being read: how long its head states its body to be, or the chunks that
+  -- came of it, and what of that body was taken
   pub stated : ℕ
   pub body : List ℕ
 
 -- For so many bytes of the body that is being read there has to be room: for as many as its head
--- states, and for those that came where it states none.
+-- or its chunks state, and for those that came.
 abbrev pub held : History → ℕ
 held h = max h.stated (length h.body)
 
@@ -182,8 +182,8 @@ abbrev pub IsInvited : Limits → History → Type 0
 IsInvited limits h =
     RestIs limits h (λ rest. ExpectsContinue limits rest → ∥ ((front : List ℕ) × (written h ≡ front ++ continue_text)) ∥₁)
 
--- that request states no longer body than it may have (one that does was refused), and what it
--- states is what is held for it
+-- that request states no longer body than it may have, by its head or by its chunks as far as they
+-- came (one that does was refused), and what it states is what is held for it
 abbrev pub IsNextWithin : Config → History → Type 0
 IsNextWithin config h = RestIs config.limits h (IsStatedWithin config h.stated)
 

@@ -6,10 +6,15 @@ use Rattle.httparse.specs.Spans.{span_bytes}
 use Rattle.httparse.specs.declared.spans.HeaderSpan.{HeaderSpan}
 use Rattle.httparse.specs.declared.spans.RequestSpans.{RequestSpans}
 use Rattle.httparse.specs.declared.spans.Span.{Span}
+use Rattle.http1.specs.declared.chunked.ChunkedDecoder.{ChunkedDecoder}
 use Rattle.http1.specs.declared.decode.Decoder.{Decoder}
+use Rattle.http1.specs.declared.decode.Decoder.TheVariants as Decoding
 use Rattle.http1.specs.declared.decode.Decoder.TheVariants.{UntilClose}
+use Rattle.http1.specs.declared.conn.Limits.{Limits}
 use Rattle.http1.specs.declared.framing.Framing.{Framing}
+use Rattle.http1.specs.declared.framing.Framing.TheVariants as Framed
 use Rattle.http1.specs.declared.server.Server.{Server}
+use Rattle.http1.specs.ChunkedDecoder.{run, run_result, start}
 use Rattle.http1.specs.Decoder.{decoder_for}
 use Rattle.http1.specs.Framing.{method_kind}
 use Rattle.http1.specs.Message as Wire
@@ -17,8 +22,8 @@ use Rattle.http1.specs.Message.{known_of, AcceptsRequest, ReadsRequestMessage}
 use Rattle.http1.specs.declared.conn.Writing.{Writing}
 use Rattle.http1.specs.declared.conn.BodySize.{BodySize}
 use Rattle.http1.specs.declared.conn.BodySize.TheVariants.{Empty, Known, Unknown}
-use Rattle.http1.specs.Conn.{data_text, after_data, finish_text}
-use Rattle.http1.specs.Server.{new_server, request_of, is_head, TakesHead, writing, with_writing, after_end}
+use Rattle.http1.specs.Conn.{data_text, after_data, finish_text, unread_size}
+use Rattle.http1.specs.Server.{new_server, request_of, is_head, TakesHead, reading, writing, with_writing, after_end}
 use Rattle.http_server.specs.declared.response.Response.{Response}
 use Rattle.http_server.specs.declared.state.TheConstants.{MAX_HEADERS}
 use Rattle.http_server.specs.Encoding.{answering}
@@ -39,7 +44,9 @@ use Rattle.dav_wire.specs.declared.state.State.{State}
 use Rattle.dav_wire.specs.declared.state.State.TheVariants.{Open, Closing, Aborted}
 use Rattle.dav_wire.specs.Exchange.{Call, Judgement, ReadsCall, Serves, most_of, passed}
 use Rattle.dav_wire.specs.History.{History, BeginsRequest, BeginsWithHead, written, HasWork, IsServed, Rests}
-use Rattle.dav_wire.specs.Refusals.{IsRefusedFor, IsStatedWithin}
+use Rattle.dav_wire.specs.Refusals.{IsRefusedFor, IsStatedWithin, len_stated}
+use Rattle.dav_wire.specs.Spots.{followed, spot_of, to_come}
+use Rattle.dav_wire.specs.declared.spot.Spot.{Spot}
 
 -- the part of an intake of which the invariant speaks
 pub record Place : Type 0 where
@@ -51,6 +58,7 @@ pub record Place : Type 0 where
   pub is_head : Bool
   pub most : ℕ
   pub stated : ℕ
+  pub spot : Spot
   pub body : List ℕ
 
 abbrev pub place : Intake → Place
@@ -63,12 +71,50 @@ place i = record {
   is_head = i.is_head;
   most = i.most;
   stated = i.stated;
+  spot = i.spot;
   body = i.body.items;
 }
 
 -- what goes before the answer to a request with this head
 abbrev pub invitation : RequestHead → Framing → List ℕ
 invitation h framing = if (request_of h framing).expects_continue then continue_text else []
+
+-- the decoder of a body that isn't in chunks
+abbrev pub IsSized : Decoder → Type 0
+IsSized (Decoding.Length left) = ⊤
+IsSized (Decoding.Chunked chunks max_len) = ⊥
+IsSized Decoding.UntilClose = ⊥
+
+-- What came of a body in chunks, and was read, went through the machine of chunks, which gave the
+-- bytes that are kept, and is where the place says.
+pub record Follows (limits : Limits) (after : List ℕ) (decoder : Decoder) (unread body : List ℕ) (spot : Spot) : Type 0 where
+  pub chunks : ChunkedDecoder
+  pub max_len : ℕ
+  pub decoder_is : decoder ≡ Decoding.Chunked chunks max_len
+  pub came : List ℕ
+  pub text : after ≡ came ++ unread
+  pub ran : run (start limits.max_extensions_len) came ≡ run_result chunks body []
+  pub is_at : spot ≡ spot_of chunks.state
+
+-- so it is where this frames the body
+abbrev pub FollowsIn : Framing → Limits → List ℕ → Decoder → List ℕ → List ℕ → Spot → Type 0
+FollowsIn Framed.NoBody limits after decoder unread body spot = IsSized decoder
+FollowsIn (Framed.Length len) limits after decoder unread body spot = IsSized decoder
+FollowsIn Framed.Chunked limits after decoder unread body spot = Follows limits after decoder unread body spot
+FollowsIn Framed.UntilClose limits after decoder unread body spot = ⊥
+
+-- how long a body is stated to be by what frames it, and by its chunks as far as they were read
+abbrev pub tally : Framing → List ℕ → Spot → ℕ
+tally Framed.NoBody body spot = 0
+tally (Framed.Length len) body spot = len
+tally Framed.Chunked body spot = length body + to_come spot
+tally Framed.UntilClose body spot = 0
+
+-- it is stated to be so long, and no longer than its method may have
+abbrev pub IsTallied : Place → List ℕ → Type 0
+IsTallied p stream =
+    (h : RequestHead) (framing : Framing) (after : List ℕ)
+    → AcceptsRequest p.config.limits stream h framing after → (p.stated ≡ tally framing p.body p.spot) × (p.stated ≤ most_of p.config h.method)
 
 -- The head of the request that begins the stream was read, and of its body the bytes that are kept: whatever comes, its body is
 -- these and then what the decoder reads in the unread bytes.
@@ -88,6 +134,7 @@ pub record Begun (p : Place) (stream interim : List ℕ) : Type 0 where
   pub waits : Bool
   pub server : p.server ≡ in_body p.config.limits head framing decoder waits
   pub goes_on : Leads (decoder_for p.config.limits framing) after decoder p.unread p.body
+  pub follows : FollowsIn framing p.config.limits after decoder p.unread p.body p.spot
 
 -- the reader is at the start of a request
 pub record IsBetween (p : Place) (stream interim : List ℕ) : Type 0 where
@@ -100,7 +147,7 @@ pub record IsBetween (p : Place) (stream interim : List ℕ) : Type 0 where
 -- The reader is within the body of the request that begins the stream, for which this much was written, or at its start.
 abbrev pub StandsAt : Bool → Place → List ℕ → List ℕ → Type 0
 StandsAt true p stream interim =
-    Begun p stream interim × (length p.body ≤ p.most) × IsStatedWithin p.config p.stated stream
+    Begun p stream interim × (length p.body ≤ p.most) × IsTallied p stream
 StandsAt false p stream interim = IsBetween p stream interim
 
 abbrev pub Standing : Place → List ℕ → List ℕ → Type 0
@@ -181,13 +228,51 @@ pub record HasHead (p : Place) (spans : List HeaderSpan) (r : RequestSpans) (str
   pub takes : TakesHead (new_server p.config.limits) stream spans p.server r.len r
   pub few : length spans ≤ MAX_HEADERS
 
+-- the place once so many of the unread bytes are noted in the chunks
+abbrev pub noted : Place → ℕ → Place
+noted p count = record p { spot = followed (unread_size (reading p.server)) p.spot (take count p.unread) }
+
+-- and once they are dropped
+abbrev pub paused : Place → ℕ → Place
+paused p count = record (noted p count) { unread = drop count p.unread }
+
 -- the next piece of a body was read, and is still among the bytes
 pub record HasPiece (p : Place) (piece : Span) (stream interim : List ℕ) : Type 0 where
   pub within : p.within ≡ true
   pub some : piece.start < piece.end
   pub fits : length p.body ≤ p.most
-  pub stated : IsStatedWithin p.config p.stated stream
-  pub onward : Begun (record p { unread = drop piece.end p.unread; body = p.body ++ span_bytes p.unread piece }) stream interim
+  pub stated : IsTallied p stream
+  pub onward : Begun (record (paused p piece.end) { body = p.body ++ span_bytes p.unread piece }) stream interim
+
+-- What the head states of a body, and its chunks as far as they came, is what they state as far as they were read.
+abbrev pub IsToldWhole : Place → List ℕ → Type 0
+IsToldWhole p stream =
+    (h : RequestHead) (framing : Framing) (after : List ℕ)
+    → AcceptsRequest p.config.limits stream h framing after → len_stated p.config.limits framing after ≡ tally framing p.body p.spot
+
+-- so many bytes were read, in which there is no piece of the body and no end, or no head
+abbrev pub PausesAt : Bool → Place → ℕ → List ℕ → List ℕ → Type 0
+PausesAt true p count stream interim =
+    Begun (paused p count) stream interim × (length p.body ≤ p.most) × IsTallied p stream × IsToldWhole (paused p count) stream
+PausesAt false p count stream interim =
+    IsBetween (paused p count) stream interim × (BeginsRequest p.config.limits stream → ⊥)
+
+-- they are still among the bytes, and the stream has no whole request
+pub record HasNone (p : Place) (count : ℕ) (stream interim : List ℕ) : Type 0 where
+  pub at : PausesAt p.within p count stream interim
+  pub unfinished : HasNoMessage p.config.limits stream
+  pub invited : ExpectsContinue p.config.limits stream → interim ≡ continue_text
+  pub judged : (bytes : List ℕ) → BeginsWithHead p.config.limits stream bytes
+      → judged_at p ≡ (bytes, None) ∷ []
+  pub free : (BeginsRequest p.config.limits stream → ⊥) → (p.stated ≡ 0) × (p.body ≡ [])
+
+-- a body of so many bytes, and maybe more, isn't taken: its method may have at most so many, or there is room for so many
+abbrev pub IsExcess : Refusal → ℕ → ℕ → ℕ → Type 0
+IsExcess Truncated most room total = ⊥
+IsExcess (Unreadable e) most room total = ⊥
+IsExcess BodyTooLong most room total = most < total
+IsExcess UnknownCoding most room total = ⊥
+IsExcess (NoRoom told) most room total = (told ≡ room) × (room < total)
 
 -- the end of the request that begins the stream was read
 pub record HasEnd (p : Place) (stream : List ℕ) : Type 0 where

@@ -1,9 +1,12 @@
 -- Why a request is refused or rejected, and the texts that the connection sends of its own.
-use Rattle.std.specs.Prelude.{◌≡◌, ◌≢◌, ℕ, ◌<◌, ◌||◌, ◌==◌, Bool, true, List, [], ◌∷◌, ◌++◌, length, codes, decimal, if◌then◌else◌, IsTrue, ◌≤◌}
+use Rattle.std.specs.Prelude.{◌≡◌, ◌≢◌, ℕ, ◌<◌, ◌||◌, ◌==◌, Bool, true, List, [], ◌∷◌, ◌++◌, ◌+◌, length, codes, decimal, if◌then◌else◌, IsTrue, ◌≤◌}
 use Rattle.httparse.specs.Grammar.{RequestHead}
 use Rattle.http1.specs.declared.framing.Framing.{Framing}
 use Rattle.http1.specs.declared.conn.Limits.{Limits}
 use Rattle.http1.specs.declared.framing.Framing.TheVariants.{NoBody, Length, Chunked, UntilClose}
+use Rattle.http1.specs.declared.chunked.State.{State}
+use Rattle.http1.specs.declared.chunked.State.TheVariants as state
+use Rattle.http1.specs.ChunkedDecoder.{run, start}
 use Rattle.http1.specs.Framing.{method_kind}
 use Rattle.http1.specs.Message.{AcceptsRequest}
 use Rattle.http1.specs.ReadError.{status_of}
@@ -12,7 +15,7 @@ use Rattle.http1.specs.Server.{is_head}
 use Rattle.http1_typed.specs.Parts.{reason_of}
 use Rattle.http_server.specs.History.{HasNoMessage, NextIs, HasTooManyFields, HasUnknownCoding, IsReadError}
 use Rattle.dav_wire.specs.declared.answer.Rejection.{Rejection}
-use Rattle.dav_wire.specs.declared.answer.Rejection.TheVariants.{Unauthorized, Forbidden, UnsupportedMediaType, Misdirected, TooManyRequests, NotImplemented, Unavailable}
+use Rattle.dav_wire.specs.declared.answer.Rejection.TheVariants.{BadRequest, Unauthorized, Forbidden, UnsupportedMediaType, Misdirected, TooManyRequests, NotImplemented, Unavailable}
 use Rattle.dav_wire.specs.declared.state.Config.{Config}
 use Rattle.dav_wire.specs.declared.state.Refusal.{Refusal}
 use Rattle.dav_wire.specs.declared.state.Refusal.TheVariants.{Truncated, Unreadable, BodyTooLong, UnknownCoding, NoRoom}
@@ -31,6 +34,7 @@ refusal_status (NoRoom room) = 503
 -- the status of a request that the answerer doesn't take (RFC 9110, sections 15.5 and 15.6; RFC 6585,
 -- section 4)
 abbrev pub rejection_status : Rejection → ℕ
+rejection_status BadRequest = 400
 rejection_status Unauthorized = 401
 rejection_status Forbidden = 403
 rejection_status UnsupportedMediaType = 415
@@ -103,19 +107,31 @@ IsRefusalText limits stream BodyTooLong text = ClosesRequest limits stream 413 t
 IsRefusalText limits stream UnknownCoding text = text ≡ closing_text true 501
 IsRefusalText limits stream (NoRoom room) text = ClosesRequest limits stream 503 text
 
--- how long a body is stated to be by what frames it (RFC 9112, section 6.3)
-abbrev pub len_stated : Framing → ℕ
-len_stated NoBody = 0
-len_stated (Length len) = len
-len_stated Chunked = 0
-len_stated UntilClose = 0
+-- how many bytes are to come of the chunk in whose data the machine of chunks is
+abbrev pub left_in : State → ℕ
+left_in (state.Data left) = left + 1
+left_in _ = 0
 
--- So many bytes are stated by the head of the request that begins the stream, and no more than its
--- method may have (RFC 9112, section 6.2).
+-- How many bytes of a body in chunks are stated by what came of it: those that came, and those that are
+-- to come of the last chunk whose size line came whole (RFC 9112, section 7.1).
+abbrev pub chunks_stated : Limits → List ℕ → ℕ
+chunks_stated limits came =
+    let r = run (start limits.max_extensions_len) came in length r.body + left_in r.ends.state
+
+-- how long a body is stated to be by what frames it, and by its chunks as far as these bytes (RFC 9112,
+-- section 6.3)
+abbrev pub len_stated : Limits → Framing → List ℕ → ℕ
+len_stated limits NoBody came = 0
+len_stated limits (Length len) came = len
+len_stated limits Chunked came = chunks_stated limits came
+len_stated limits UntilClose came = 0
+
+-- So many bytes are stated of the body of the request that begins the stream, by its head or by the
+-- chunks that came, and no more than its method may have (RFC 9112, sections 6.2 and 7.1).
 abbrev pub IsStatedWithin : Config → ℕ → List ℕ → Type 0
 IsStatedWithin config stated stream =
     (h : RequestHead) (framing : Framing) (after : List ℕ)
-    → AcceptsRequest config.limits stream h framing after → (stated ≡ len_stated framing) × (stated ≤ most_of config h.method)
+    → AcceptsRequest config.limits stream h framing after → (stated ≡ len_stated config.limits framing after) × (stated ≤ most_of config h.method)
 
 -- Why the request that begins the stream is refused: the input ended within it; or, whatever bytes
 -- might follow, it has too many fields, or can't be read at all, or its body is longer than its

@@ -23,6 +23,8 @@ pub struct Asked {
 /// Why an answerer doesn't take a request, of whose head alone it knows (RFC 9110, sections 15.5 and 15.6).
 #[derive(Clone, Copy, Debug, PartialEq, Eq)]
 pub enum Rejection {
+    /// A field of its head has a value that isn't allowed (400).
+    BadRequest,
     /// It doesn't show who makes it, and has to (401); the response challenges its sender (RFC 9110, section 11.6.1).
     Unauthorized,
     /// It is forbidden, whoever makes it (403).
@@ -45,6 +47,7 @@ impl Rejection {
         ensures { result ≡ rejection_status self }
     {
         match self {
+            Rejection::BadRequest => 400,
             Rejection::Unauthorized => 401,
             Rejection::Forbidden => 403,
             Rejection::UnsupportedMediaType => 415,

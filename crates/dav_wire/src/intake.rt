@@ -1,5 +1,6 @@
 //! The bytes that came, and the request that is being cut from them.
-ghost use Rattle.std.specs.Prelude.{◌≡◌, ◌≢◌, ◌<◌, ◌≤◌, List, ℕ, [], false, length, IsTrue, IsFalse, IfOk, OnErr};
+ghost use Rattle.std.specs.Prelude.{◌≡◌, ◌≢◌, ◌+◌, ◌<◌, ◌≤◌, List, ℕ, [], false, length, take, IsTrue, IsFalse, IfOk, MatchOption, OnErr};
+ghost use Rattle.std.specs.Bool.{Decides};
 ghost use Rattle.httparse.specs.Spans.{IsRequestWithin, IsWithin};
 ghost use Rattle.http1.specs.Framing.{method_kind};
 ghost use Rattle.http1.specs.Conn.{unread_size};
@@ -7,6 +8,7 @@ ghost use Rattle.http1.specs.Server.{is_head, reading};
 ghost use Rattle.http_server.specs.declared.state.TheConstants.{MAX_HEADERS};
 
 use crate::answer::Asked;
+use crate::spot::Spot;
 use crate::state::{Config, Refusal, most_of};
 use bytes::{Bytes, BytesMut};
 use http1::framing::MethodKind;
@@ -48,15 +50,18 @@ pub(crate) struct Intake {
     pub(crate) head: BytesMut,
     pub(crate) is_head: bool,
     pub(crate) most: usize,
-    /// How many bytes that head states its body to have; 0 where it states none.
+    /// How many bytes that head states its body to have, or the chunks that came of it; 0 where they state none.
     pub(crate) stated: usize,
+    /// Where the reader is in these chunks.
+    pub(crate) spot: Spot,
     /// What was read of its body.
     pub(crate) body: Vec<u8>,
 }
 
 impl Intake {
-    ghost use Rattle.dav_wire.specs.Place.{place, Standing, IsStarved, HasHead, HasPiece, HasEnd, Finds, FitsIn, TellsRoom, judged_at, known_len, work, KeepsIntake};
+    ghost use Rattle.dav_wire.specs.Place.{place, Standing, IsStarved, HasHead, HasPiece, HasEnd, HasNone, Finds, FitsIn, TellsRoom, IsExcess, judged_at, known_len, work, KeepsIntake};
     ghost use Rattle.dav_wire.specs.History.{HasWork};
+    ghost use Rattle.dav_wire.specs.Spots.{chunk_left, followed, tallied};
 
     pub(crate) fn new(alloc: Global, config: Config) -> Intake
         ensures standing { Standing (place result) [] [] }
@@ -74,6 +79,7 @@ impl Intake {
             is_head: false,
             most: 0,
             stated: 0,
+            spot: Spot::Size(0),
             body: Vec::new(alloc),
         }
     }
@@ -105,11 +111,73 @@ impl Intake {
                 self.input.advance(read.consumed);
                 self.finish()
             }
-            _ => {
-                self.input.advance(read.consumed);
-                Ok(self.wait())
-            }
+            _ => Ok(self.pause(read.consumed, room)),
         }
+    }
+
+    // There is no more to read after so many bytes. What they state of a body may be too much.
+    fn pause(&mut self, count: usize, room: usize) -> Found
+        requires { count ≤ length self.old.input.items }
+        ensures finds { (stream interim : List ℕ)
+            → HasNone (place self.old) count stream interim
+            → Finds result self.old.ended (judged_at (place self.old)) (work (place self.old))
+            (place self.new) stream interim }
+        ensures keeps { KeepsIntake self.old self.new }
+        ensures fits { FitsIn room self.old → FitsIn room self.new }
+        ensures told { TellsRoom room result }
+    {
+        self.follow(count);
+        self.input.advance(count);
+        let len = self.body.len();
+        match self.weigh(len, room) {
+            Some(why) => Found::Refused(why),
+            None => self.wait(),
+        }
+    }
+
+    // Notes where the reader is in the chunks of a body after so many bytes.
+    fn follow(&mut self, count: usize)
+        requires { count ≤ length self.old.input.items }
+        ensures { self.new ≡ record self.old {
+          spot = followed (unread_size (reading self.old.server)) self.old.spot
+              (take count self.old.input.items);
+        } }
+    {
+        if let BodySize::Unknown = self.server.unread_size() {
+            self.spot = self.spot.after(&self.input.as_slice()[..count]);
+        }
+    }
+
+    // How many bytes of the chunk that came last are to come.
+    fn to_come(&self) -> u64
+        ensures { result ≡ chunk_left (unread_size (reading self.now.server)) self.now.spot }
+    {
+        match self.server.unread_size() {
+            BodySize::Unknown => self.spot.to_come(),
+            BodySize::Known(_) | BodySize::Empty => 0,
+        }
+    }
+
+    // Notes what the chunks state of a body of which so many bytes came, and tells why it isn't taken, if it isn't.
+    fn weigh(&mut self, len: usize, room: usize) -> Option<Refusal>
+        ensures { let size = unread_size (reading self.old.server) in
+            let total = len + chunk_left size self.old.spot in
+            MatchOption result
+            ((total ≤ self.old.most) × (total ≤ room)
+            × (self.new ≡ record self.old { stated = tallied size self.old.stated total }))
+            (λ why. IsExcess why self.old.most room total × (self.new ≡ self.old)) }
+    {
+        let to_come = self.to_come();
+        if is_past(len, to_come, self.most) {
+            return Some(Refusal::BodyTooLong);
+        }
+        if is_past(len, to_come, room) {
+            return Some(Refusal::NoRoom(room));
+        }
+        if let BodySize::Unknown = self.server.unread_size() {
+            self.stated = len + to_come as usize;
+        }
+        None
     }
 
     // There is no more to read: more bytes may come, or the input ended here.
@@ -168,6 +236,7 @@ impl Intake {
         self.head.extend_from_slice(&input[..head.len])?;
         self.input.advance(head.len);
         self.is_within = true;
+        self.spot = Spot::Size(0);
         if self.states_more(self.most) {
             return Ok(Found::Refused(Refusal::BodyTooLong));
         }
@@ -216,14 +285,12 @@ impl Intake {
         ensures fits { FitsIn room self.old → FitsIn room self.new }
         ensures told { IfOk result (TellsRoom room) }
     {
+        self.follow(piece.end);
+        let len = self.body.len() + piece.of(self.input.as_slice()).len();
+        if let Some(why) = self.weigh(len, room) {
+            return Ok(Found::Refused(why));
+        }
         let bytes = piece.of(self.input.as_slice());
-        let len = self.body.len() + bytes.len();
-        if len > self.most {
-            return Ok(Found::Refused(Refusal::BodyTooLong));
-        }
-        if len > room {
-            return Ok(Found::Refused(Refusal::NoRoom(room)));
-        }
         let to_come = self.stated.saturating_sub(self.body.len());
         self.body.reserve(to_come)?;
         self.body.extend_from_slice(bytes)?;
@@ -259,4 +326,11 @@ fn is_head(method: &[u8]) -> bool
     ensures { result ≡ is_head (method_kind method.now) }
 {
     matches!(MethodKind::of(method), MethodKind::Head)
+}
+
+// Whether these bytes and those to come are more than so many.
+fn is_past(len: usize, to_come: u64, most: usize) -> bool
+    ensures { Decides result (most < len + to_come) }
+{
+    len > most || to_come > (most - len) as u64
 }

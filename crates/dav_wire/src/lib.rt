@@ -9,6 +9,7 @@ mod laws;
 mod line;
 mod peer;
 mod reply;
+mod spot;
 mod state;
 #[cfg(test)]
 mod tests;

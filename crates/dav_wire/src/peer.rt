@@ -45,7 +45,7 @@ impl Peer {
     }
 
     /// Has heads judged and the requests answered that came whole, in order, while not too much waits to be sent. A request is refused
-    /// where its body has more bytes than there is room for: at its head where that states so, else once so many came. After an error, where memory
+    /// where its body has more bytes than there is room for: at its head where that states so, else once a chunk's line states so. After an error, where memory
     /// ran out or the answerer stopped (its reason is the error), the connection is `Aborted`, and what waited is dropped.
     pub fn advance<S: Answerer>(&mut self, answerer: &mut S, room: usize) -> Result<(), Stop>
         ensures served { ∥ IsServed (config_of self.new) (history self.new) ∥₁ }
@@ -96,7 +96,7 @@ impl Peer {
         self.line.output.len()
     }
 
-    /// For how many bytes of the body that is being read there has to be room: as many as its head states, or as came.
+    /// For how many bytes of the body that is being read there has to be room: as many as its head or its chunks state, or as came.
     pub fn held(&self) -> usize
         ensures { result ≡ held (history self.now) }
     {

@@ -38,11 +38,26 @@ GET /a HTTP/1.1^Host: h^^PUT /b HTTP/1.1^Host: h^Content-Length: 2^^h -> HTTP/1.
 GET /0123456789012345678901234567890123456789012345678901234567890123456789012345678901234567890123456789012345678901234567890123456789 HTTP/1.1^ -> HTTP/1.1 414 URI Too Long^connection: close^content-length: 0^^
 GET /a HTTP/1.1^Host: h^A: 0123456789012345678901234567890123456789012345678901234567890123456789012345678901234567890123456789012345678901234567890123456789^ -> HTTP/1.1 431 Request Header Fields Too Large^connection: close^content-length: 0^^
 
+# chunks, whose lines state how much comes (RFC 9112, section 7.1)
+PUT /a HTTP/1.1^Host: h^Transfer-Encoding: chunked^^FFFFFFFFFFFFFFFF^ -> HTTP/1.1 413 Payload Too Large^content-type: text/plain; charset=utf-8^connection: close^content-length: 39^^This is larger than this server takes.$
+PUT /a HTTP/1.1^Host: h^Transfer-Encoding: chunked^^ffffffffffffffff ;x=y^ -> HTTP/1.1 413 Payload Too Large^content-type: text/plain; charset=utf-8^connection: close^content-length: 39^^This is larger than this server takes.$
+PUT /a HTTP/1.1^Host: h^Transfer-Encoding: chunked^^1FFFFFFFFFFFFFFFF^ -> HTTP/1.1 400 Bad Request^connection: close^content-length: 0^^
+PUT /a HTTP/1.1^Host: h^Transfer-Encoding: chunked^^FFFFFFFFFFFFFFFF -> HTTP/1.1 400 Bad Request^connection: close^content-length: 0^^
+PUT /a HTTP/1.1^Host: h^Transfer-Encoding: chunked^^11^ -> HTTP/1.1 413 Payload Too Large^content-type: text/plain; charset=utf-8^connection: close^content-length: 39^^This is larger than this server takes.$
+PUT /a HTTP/1.1^Host: h^Transfer-Encoding: chunked^^3^abc^E^ -> HTTP/1.1 413 Payload Too Large^content-type: text/plain; charset=utf-8^connection: close^content-length: 39^^This is larger than this server takes.$
+PUT /a HTTP/1.1^Host: h^Transfer-Encoding: chunked^^3^abc^D^ -> HTTP/1.1 400 Bad Request^connection: close^content-length: 0^^
+PUT /a HTTP/1.1^Host: h^Transfer-Encoding: chunked^^3^abc^0000000000000000000D^0123456789012^0^^ -> HTTP/1.1 200 OK^content-length: 32^^PUT /a HTTP/1.1|abc0123456789012
+PUT /a HTTP/1.1^Host: h^Transfer-Encoding: chunked^^0^FFFFFFFFFFFFFFFF^ -> HTTP/1.1 400 Bad Request^connection: close^content-length: 0^^
+LOCK /a HTTP/1.1^Host: h^Transfer-Encoding: chunked^^20^ -> HTTP/1.1 400 Bad Request^connection: close^content-length: 0^^
+LOCK /a HTTP/1.1^Host: h^Transfer-Encoding: chunked^^21^ -> HTTP/1.1 413 Payload Too Large^content-type: text/plain; charset=utf-8^connection: close^content-length: 39^^This is larger than this server takes.$
+HEAD /a HTTP/1.1^Host: h^Transfer-Encoding: chunked^^11^ -> HTTP/1.1 413 Payload Too Large^content-type: text/plain; charset=utf-8^connection: close^content-length: 39^^
+
 # rejections, of the head alone (RFC 9110, sections 10.1.1 and 15)
 PUT /no-403 HTTP/1.1^Host: h^Content-Length: 5^^hello -> HTTP/1.1 403 Forbidden^content-type: text/plain; charset=utf-8^connection: close^content-length: 40^^This isn't allowed here, or not to you.$
 PUT /no-403 HTTP/1.1^Host: h^Content-Length: 5^^ -> HTTP/1.1 403 Forbidden^content-type: text/plain; charset=utf-8^connection: close^content-length: 40^^This isn't allowed here, or not to you.$
 PUT /no-403 HTTP/1.1^Host: h^Expect: 100-continue^Content-Length: 5^^ -> HTTP/1.1 403 Forbidden^content-type: text/plain; charset=utf-8^connection: close^content-length: 40^^This isn't allowed here, or not to you.$
 PUT /no-415 HTTP/1.1^Host: h^Transfer-Encoding: chunked^^5^hello^0^^ -> HTTP/1.1 415 Unsupported Media Type^connection: close^content-length: 0^^
+PUT /no-400 HTTP/1.1^Host: h^Content-Length: 5^^ -> HTTP/1.1 400 Bad Request^connection: close^content-length: 0^^
 PUT /no-401 HTTP/1.1^Host: h^Content-Length: 5^^ -> HTTP/1.1 401 Unauthorized^www-authenticate: Basic realm=\"vuldarg\", charset=\"UTF-8\"^content-type: text/plain; charset=utf-8^connection: close^content-length: 48^^Who are you? Log in with a name and a password.$
 GET /no-421 HTTP/1.1^Host: h^^GET /a HTTP/1.1^Host: h^^ -> HTTP/1.1 421 Misdirected Request^content-type: text/plain; charset=utf-8^connection: close^content-length: 50^^This server hasn't that name, or not that folder.$
 PUT /no-429 HTTP/1.1^Host: h^Expect: 100-continue^Content-Length: 5^^ -> HTTP/1.1 429 Too Many Requests^retry-after: 60^content-type: text/plain; charset=utf-8^connection: close^content-length: 43^^Too many wrong logins: wait and try again.$
@@ -62,6 +77,10 @@ PUT /a HTTP/1.1^Host: h^Transfer-Encoding: chunked^^3^abc^2^de^0^^ -> HTTP/1.1 5
 PUT /a HTTP/1.1^Host: h^Expect: 100-continue^Transfer-Encoding: chunked^^5^abcde -> HTTP/1.1 100 Continue^^HTTP/1.1 503 Service Unavailable^retry-after: 1^content-type: text/plain; charset=utf-8^connection: close^content-length: 41^^This can't be taken now: try again soon.$
 GET /a HTTP/1.1^Host: h^^PUT /a HTTP/1.1^Host: h^Content-Length: 4^^hellGET /b HTTP/1.1^Host: h^Content-Length: 0^^ -> HTTP/1.1 200 OK^content-length: 16^^GET /a HTTP/1.1|HTTP/1.1 200 OK^content-length: 20^^PUT /a HTTP/1.1|hellHTTP/1.1 200 OK^content-length: 16^^GET /b HTTP/1.1|
 PUT /a HTTP/1.1^Host: h^Content-Length: 17^^ -> HTTP/1.1 413 Payload Too Large^content-type: text/plain; charset=utf-8^connection: close^content-length: 39^^This is larger than this server takes.$
+PUT /a HTTP/1.1^Host: h^Transfer-Encoding: chunked^^5^ -> HTTP/1.1 503 Service Unavailable^retry-after: 1^content-type: text/plain; charset=utf-8^connection: close^content-length: 41^^This can't be taken now: try again soon.$
+PUT /a HTTP/1.1^Host: h^Transfer-Encoding: chunked^^3^abc^2^ -> HTTP/1.1 503 Service Unavailable^retry-after: 1^content-type: text/plain; charset=utf-8^connection: close^content-length: 41^^This can't be taken now: try again soon.$
+PUT /a HTTP/1.1^Host: h^Transfer-Encoding: chunked^^3^abc^1^ -> HTTP/1.1 400 Bad Request^connection: close^content-length: 0^^
+PUT /a HTTP/1.1^Host: h^Transfer-Encoding: chunked^^11^ -> HTTP/1.1 413 Payload Too Large^content-type: text/plain; charset=utf-8^connection: close^content-length: 39^^This is larger than this server takes.$
 
 # a response that can't be sent
 GET /101 HTTP/1.1^Host: h^^ -> HTTP/1.1 500 Internal Server Error^connection: close^content-length: 0^^
@@ -118,6 +137,7 @@ fn line_of(head: &[u8]) -> &[u8] {
 fn rejection_in(line: &[u8]) -> Option<Rejection> {
     let target = line.split(|b| *b == b' ').nth(1)?;
     match target.strip_prefix(b"/no-".as_slice())? {
+        b"400" => Some(Rejection::BadRequest),
         b"401" => Some(Rejection::Unauthorized),
         b"403" => Some(Rejection::Forbidden),
         b"415" => Some(Rejection::UnsupportedMediaType),
@@ -212,6 +232,6 @@ fn rows_are_told(rt: HostRuntime) -> Result<(), Fail> {
             count = count.saturating_add(1);
         }
     }
-    assert!(rt; count == 43, "{count} rows");
+    assert!(rt; count == 60, "{count} rows");
     Ok(())
 }

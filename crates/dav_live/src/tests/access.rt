@@ -210,6 +210,7 @@ fn decided(alloc: Global, admission: &mut Admission, head: &Head<'_>) -> Result<
         Decision::Look(admitted) => said(alloc, "look", admitted.user()),
         Decision::Refused(refused) => {
             let status = match refused.reason {
+                Reason::BadPort => "400",
                 Reason::Misdirected | Reason::Elsewhere(Part::Target) => "421",
                 Reason::Unauthorized => "401",
                 Reason::Forbidden | Reason::ReadOnly => "403",

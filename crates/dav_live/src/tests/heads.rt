@@ -1,12 +1,12 @@
 //! What is said of a request by its head alone.
 use super::unescaped;
-use crate::hosts::{is_for, is_own_origin};
+use crate::hosts::{asks_bad_port, is_for, is_own_origin};
 use crate::rejection::{is_plain_read, may_be_long, rejection_of};
 use dav_http::Head;
 use std::alloc::{AllocError, Global};
 use std::test::Fail;
 
-/// The fields Host and Origin, with `-` for one that is missing: whether it is for this server, and
+/// The fields Host and Origin, with `-` for one that is missing: whether it is for this server, or for a port that can't be, and
 /// whether a page of another site makes it. Besides its own names the server has `files.example`
 /// and `[2001:db8::1]`.
 const NAMES: &str = "\
@@ -43,6 +43,21 @@ xfiles.example | - -> other same
 files.example.org | - -> other same
 anna@localhost | - -> other same
 localhost/ | - -> other same
+# ports (RFC 3986, section 3.2.3; RFC 6335, section 6)
+localhost:0 | - -> us same
+localhost:00000000000000000000080 | - -> us same
+localhost:65536 | - -> bad same
+localhost:99999999999 | - -> bad same
+localhost:18446744073709551696 | - -> bad same
+127.0.0.1:65536 | - -> bad same
+[::1]:65536 | - -> bad same
+files.example:100000 | - -> bad same
+evil.example:65536 | - -> bad same
+localhost:4918:65536 | - -> bad same
+localhost:65536:4918 | - -> other same
+localhost:-1 | - -> other same
+localhost:65536 | http://localhost:65536 -> bad same
+localhost:65536 | http://evil.example -> bad foreign
 # pages of this server (RFC 6454, sections 6.2 and 7): the scheme makes no difference
 localhost:4918 | http://localhost:4918 -> us same
 localhost:4918 | https://localhost:4918 -> us same
@@ -103,6 +118,16 @@ PUT @evil.example -> - - -
 GET @evil.example -> - plain -
 PUT @evil.example Origin: http://localhost^Content-Length: 5 -> 403 - -
 PUT @evil.example Origin: http://evil.example^Content-Length: 5 -> 421 - -
+# a body for a Host with a port that can't be (RFC 9112, section 3.2; RFC 6335, section 6)
+PUT @localhost:65536 Content-Length: 5 -> 400 - -
+PUT @localhost:99999999999 Transfer-Encoding: chunked -> 400 - long
+PUT @evil.example:65536 Content-Length: 5 -> 400 - -
+GET @[::1]:65536 Content-Length: 5 -> 400 - -
+POST @localhost:65536 Content-Length: 5 -> 400 - -
+PUT @localhost:65536 Origin: http://evil.example^Content-Length: 5 -> 403 - -
+PUT @localhost:65535 Content-Length: 5 -> - - -
+PUT @localhost:65536 -> - - -
+GET @localhost:65536 -> - plain -
 # a body with a method that isn't served, in this case (RFC 9110, section 9.1)
 POST Content-Length: 5 -> 501 - -
 REPORT Content-Length: 5 -> 501 - -
@@ -165,6 +190,13 @@ fn names(alloc: Global) -> Result<Vec<String>, AllocError> {
 
 // What is said of a request with this Host and this Origin.
 fn names_said(head: &Head<'_>, hosts: &[String]) -> &'static str {
+    if asks_bad_port(head) {
+        return if is_own_origin(head) {
+            "bad same"
+        } else {
+            "bad foreign"
+        };
+    }
     match (is_for(head, hosts), !is_own_origin(head)) {
         (true, false) => "us same",
         (true, true) => "us foreign",

@@ -1,4 +1,6 @@
-use Rattle.std.proofs.Common.{◌≤◌, length, rules, refl, sym, ap, ◌∙◌, arith}
+use Rattle.std.proofs.Common.{true, ◌≤◌, length, rules, refl, sym, ap, ◌∙◌, arith}
+use Rattle.dav_wire.specs.declared.spot.Spot.TheVariants.{Size}
+use Rattle.dav_wire.specs.Place.{place}
 use Rattle.dav_wire.proofs.Bodies.{too_long_ahead, no_room_ahead, knows}
 use Rattle.dav_wire.proofs.Events.{has_coding, head_work, begins, head_less, states_within, head_read, unjudged}
 use Rattle.dav_wire.proofs.intake.Intake.begin.Goals as goal
@@ -32,7 +34,16 @@ returns-clause-finds c = λ stream interim x.
     let begun = begins x (sym c.has_codings.ensures ∙ c.if-has_codings.false) c.advance.new.self.items c.extend_from_slice.new.self.items
     c.of-method.result.now c.is_head-self.result c.most_of-self.result c.len_stated-self.result (search rules) (search rules) (search rules) (search rules) (search rules) in
     let fits : length c.args.self.now.body.items ≤ c.most_of-self.result = omega (arith, ap length x.body) in
-    let stated = states_within x c.of-method.result.now c.most_of-self.result c.len_stated-self.result (search rules) (search rules)
+    let q = record (place c.args.self.now) {
+      unread = c.advance.new.self.items;
+      within = true;
+      head = c.extend_from_slice.new.self.items;
+      is_head = c.is_head-self.result;
+      most = c.most_of-self.result;
+      stated = c.len_stated-self.result;
+      spot = Size 0;
+    } in
+    let stated = states_within x q c.of-method.result.now c.most_of-self.result refl x.body refl (search rules) (search rules)
     c.len_stated-self.ensures.known
     (c.len_stated-self.ensures.within c.most_of-self.result (c.states_more.ensures.short c.if-states_more.false)) in (
       head_read x _ c.expects_continue.result c.expects_continue.ensures refl refl begun fits stated,

@@ -1,5 +1,5 @@
 use Rattle.std.proofs.Common.{rules, ◌≤◌, ◌*◌, length, sym, ap, subst, arith, length-drop, inr}
-use Rattle.dav_wire.specs.Place.{place, IsStarved, HasEnd}
+use Rattle.dav_wire.specs.Place.{place, HasEnd}
 use Rattle.dav_wire.proofs.Events.{head_found, piece_found, end_found, nothing_found, unreadable}
 use Rattle.dav_wire.proofs.intake.Intake.read.Goals as goal
 
@@ -53,11 +53,6 @@ returns-in-End-clause-fails c = λ stream interim x.
 
 pub returns-in_default-clause-finds : goal.returns-in_default-clause-finds
 returns-in_default-clause-finds c = λ stream interim x.
-    let i = c.args.self.now in
-    c.wait.ensures.finds stream interim _
-    (subst (λ u. IsStarved (record (place i) { server = c.read.new.self; unread = u }) stream interim) (sym c.advance-in_default.ensures.items)
-    (nothing_found (place i) stream interim c.read.new.headers c.read.new.self c.in-Ok.read
-    (rw c.as_slice.ensures at c.in-Ok.ensures.ok) x (c.in_default.not-Head, c.in_default.not-Data, c.in_default.not-End)))
-
-pub returns-in_default-clause-told : goal.returns-in_default-clause-told
-returns-in_default-clause-told c = c.wait.ensures.told c.args.room
+    c.pause.ensures.finds stream interim
+    (nothing_found (place c.args.self.now) stream interim c.read.new.headers c.read.new.self c.in-Ok.read
+    (rw c.as_slice.ensures at c.in-Ok.ensures.ok) x (c.in_default.not-Head, c.in_default.not-Data, c.in_default.not-End))
