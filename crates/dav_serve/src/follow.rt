@@ -60,7 +60,11 @@ pub fn follow(rt: &HostRuntime, alloc: Global) -> Result<Fault, Refusal> {
     // A failed write to standard error can't be reported anywhere.
     let _ = eprintln!(rt; "serve: another server has the state in {folder}; it is followed");
     let (mut pipe, mut orders) = (Pipe::new(alloc)?, Vec::new(alloc));
-    let (mut reader, mut writer, mut watcher) = (rt.reader(), io::writer(rt), Watcher::new(rt, None));
+    let (mut reader, mut writer, mut watcher) = (
+        rt.reader(),
+        io::writer(rt),
+        Watcher::new(rt, None),
+    );
     let mut beat = Beat { last: None };
     for _ in 0..u64::MAX {
         match follower.listen(&mut pipe, &mut reader) {

@@ -146,7 +146,10 @@ fn right_logins_are_kept(rt: HostRuntime) -> Result<(), Fail> {
     let kept = logins.known_bytes(alloc)?;
     assert!(&rt; kept.as_slice() == KNOWN.as_slice());
     for len in [0usize, 15, 17, 47] {
-        assert!(&rt; Logins::recalled(alloc, &kept[..len])?.is_none(), "{len} bytes");
+        assert!(&rt;
+            Logins::recalled(alloc, &kept[..len])?.is_none(),
+            "{len} bytes"
+        );
     }
     let mut many = Vec::new(alloc);
     many.resize(16 + 1025 * 32, 7u8)?;

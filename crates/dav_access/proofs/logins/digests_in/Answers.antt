@@ -13,7 +13,7 @@ loop-digest-preserved c =
     let after : c.in-Some.after.now ≡ drop 32 rest = c.in-Some.ensures.cases.1 in
     let some : 32 ≤ length rest = omega (arith, c.in-Some.ensures.cases.2) in (
       ap (λ (l : List (List ℕ)). flat_map (λ d. d) l ++ c.in-Some.after.now) more ∙ ap (λ (l : List ℕ). flat_map (λ d. d) (digests ++ take 32 rest ∷ []) ++ l) after
-      ∙ joined_more digests rest c.args.bytes.now c.loop-digest.invariant.0,
+          ∙ joined_more digests rest c.args.bytes.now c.loop-digest.invariant.0,
       subst (All (λ d. length d ≡ 32)) (sym more) (each_more digests rest some c.loop-digest.invariant.1),
       omega (arith, ap length more, length-append digests (take 32 rest ∷ []), c.in-Some.ensures.cases.2, c.loop-digest.invariant.2),
       c.loop-digest.invariant.3,
