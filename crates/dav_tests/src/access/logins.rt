@@ -94,13 +94,18 @@ fn recalled(alloc: Global, bytes: &[u8]) -> Result<Logins, Fail> {
     Ok(Logins::recalled(alloc, bytes)?.ok_or("bytes of no logins")?)
 }
 
+// What is known of them after a restart.
+fn restarted(alloc: Global, logins: &Logins) -> Result<Logins, Fail> {
+    recalled(alloc, &logins.known_bytes(alloc)?)
+}
+
 // How long the login waits that comes after the others of a row.
 fn waited(alloc: Global, input: &str) -> Result<u64, Fail> {
     let (before, next) = input.split_once(" | ").ok_or("a row without a login")?;
     let mut logins = recalled(alloc, &SALT)?;
     for login in before.split(", ") {
         if login == "restart" {
-            logins = recalled(alloc, &logins.known_bytes(alloc)?)?;
+            logins = restarted(alloc, &logins)?;
         } else if let Some((name, password)) = login.split_once('-') {
             logins.note_wrong(name.as_bytes(), password.as_bytes(), 0)?;
         } else if let Some((name, password)) = login.split_once('+')
