@@ -15,7 +15,8 @@ pub returns-then-not-is_for-clause-decision : goal.returns-then-not-is_for-claus
 returns-then-not-is_for-clause-decision c =
     let hosts : c.args.self.now.hosts ≡ map string_bytes c.deref.result.now =
     sym (ap (λ (a : AdmissionView). a.hosts) c.self.view_is) ∙ ap (map string_bytes) (sym c.deref.ensures.value) in
-    for_another c.args.self.now c.args.tokens c.args.head.now c.args.body.now c.refused.result _ _ hosts c.refused.ensures refl c.new.ensures.bytes
+    for_another c.args.self.now c.args.tokens c.args.head.now c.args.body.now c.refused-then-not-is_for.result _ _ hosts c.refused-then-not-is_for.ensures refl
+    c.new-then-not-is_for.ensures.bytes
     (decided_not c.asks_bad_port.result c.asks_bad_port.ensures c.if-asks_bad_port.false)
     (subst (TellsFor (map string_bytes c.deref.result.now) (asked_host c.args.head.now)) c.if-not-is_for.true c.is_for.ensures)
 
