@@ -17,14 +17,14 @@ use Rattle.dav_access.specs.Rules.{Rules}
 use Rattle.dav_server.specs.Target.{TargetNames}
 use Rattle.dav_server.specs.TargetCode.{GivesPath}
 use Rattle.dav_server.proofs.TargetLemmas.{one_outcome}
-use Rattle.dav_live.specs.Admission.{AdmissionView, IsDecision, IsTokenFor, HasLeaveIn, IsTurnedAway, LooksIn, misdirected, next, unknown, users_for}
-use Rattle.dav_live.specs.Hosts.{TellsFor, asked_host, value_of}
+use Rattle.dav_live.specs.Admission.{AdmissionView, IsDecision, IsTokenFor, HasLeaveIn, IsTurnedAway, LooksIn, bad_port, misdirected, next, unknown, users_for}
+use Rattle.dav_live.specs.Hosts.{AsksBadPort, TellsFor, asked_host, value_of}
 use Rattle.dav_live.specs.Tokens.{token_text}
 use Rattle.dav_access.specs.Principals.{ShowsNoUser}
 use Rattle.dav_live.specs.declared.admission.Decision.{Decision}
 use Rattle.dav_live.specs.declared.admission.Decision.TheVariants.{Refused}
 use Rattle.dav_live.specs.declared.admission.Reason.{Reason}
-use Rattle.dav_live.specs.declared.admission.Reason.TheVariants.{Misdirected, Unauthorized}
+use Rattle.dav_live.specs.declared.admission.Reason.TheVariants.{BadPort, Misdirected, Unauthorized}
 use Rattle.dav_live.specs.declared.admission.RefusedRequest.{RefusedRequest}
 
 module _ (a : AdmissionView) (tokens : ℕ) (came : Request) (bytes : List ℕ) (d : Decision) where
@@ -34,18 +34,22 @@ module _ (a : AdmissionView) (tokens : ℕ) (came : Request) (bytes : List ℕ) 
       subst (IsDecision a tokens came bytes) (sym e)
       (subst (λ (r : Reason). IsTurnedAway a came bytes r (string_bytes x.user)) (sym reason_is) (subst (IsTurnedAway a came bytes reason) (sym user_is) away))
 
+  pub for_no_port : (x : RefusedRequest) → d ≡ Refused x → x.reason ≡ BadPort → string_bytes x.user ≡ [] → AsksBadPort (asked_host came)
+      → IsDecision a tokens came bytes d
+  for_no_port x e reason_is user_is asks = turned_away x BadPort [] e reason_is user_is (bad_port asks)
+
   pub for_another : (x : RefusedRequest) (hosts : List (List ℕ)) → a.hosts ≡ hosts → d ≡ Refused x → x.reason ≡ Misdirected → string_bytes x.user ≡ []
-      → TellsFor hosts (asked_host came) false → IsDecision a tokens came bytes d
-  for_another x hosts same e reason_is user_is tells =
+      → ¬ AsksBadPort (asked_host came) → TellsFor hosts (asked_host came) false → IsDecision a tokens came bytes d
+  for_another x hosts same e reason_is user_is port tells =
       turned_away x Misdirected [] e reason_is user_is
-      (misdirected (subst (λ (hs : List (List ℕ)). TellsFor hs (asked_host came) false) (sym same) tells))
+      (misdirected port (subst (λ (hs : List (List ℕ)). TellsFor hs (asked_host came) false) (sym same) tells))
 
   pub of_nobody : (x : RefusedRequest) (hosts : List (List ℕ)) (shown : List ℕ) → a.hosts ≡ hosts → d ≡ Refused x → x.reason ≡ Unauthorized
-      → string_bytes x.user ≡ shown → TellsFor hosts (asked_host came) true
+      → string_bytes x.user ≡ shown → ¬ AsksBadPort (asked_host came) → TellsFor hosts (asked_host came) true
       → ShowsNoUser (users_for a came) (value_of (codes "authorization") came) shown → IsDecision a tokens came bytes d
-  of_nobody x hosts shown same e reason_is user_is tells shows =
+  of_nobody x hosts shown same e reason_is user_is port tells shows =
       turned_away x Unauthorized shown e reason_is user_is
-      (unknown shown (subst (λ (hs : List (List ℕ)). TellsFor hs (asked_host came) true) (sym same) tells) shows)
+      (unknown shown port (subst (λ (hs : List (List ℕ)). TellsFor hs (asked_host came) true) (sym same) tells) shows)
 
 -- ---- leave
 

@@ -1,8 +1,9 @@
 -- The port of an authority.
-use Rattle.std.proofs.Common.{◌≡◌, ℕ, ◌≤◌, List, [], ◌∷◌, ◌++◌, Contains, ap, sym, subst, refl, arith, drop, ◌∙◌, Option, None, MatchOption, Bool, ◌||◌, map}
+use Rattle.std.proofs.Common.{◌≡◌, ℕ, ◌≤◌, List, [], ◌∷◌, ◌++◌, Contains, ap, sym, subst, refl, arith, drop, ◌∙◌, Option, None, MatchOption, Bool, false, ◌||◌, map, true≢false}
 use Rattle.std.specs.List.{list_any}
 use Rattle.std.proofs.lemmas.List.Elements.{All-contains, Contains-append_right}
-use Rattle.dav_live.specs.Hosts.{AreDigits}
+use Rattle.std.specs.Bool.{Decides}
+use Rattle.dav_live.specs.Hosts.{AreDigits, HasBadPort, IsPort}
 
 -- a text that goes on with a colon has one
 pub has_colon : (a p : List ℕ) → Contains (a ++ 58 ∷ p) 58
@@ -33,6 +34,22 @@ no_port t host port is none not_digits h p also digits =
 
 pub no_colon_no_port : (t : List ℕ) → ¬ Contains t 58 → (h p : List ℕ) → t ≡ h ++ 58 ∷ p → ¬ AreDigits p
 no_colon_no_port t none h p is digits = none (subst (λ (u : List ℕ). Contains u 58) (sym is) (has_colon h p))
+
+-- the port after the last colon is a bad one, or there is none
+pub bad_after : (t host port : List ℕ) (b : Bool) → t ≡ host ++ 58 ∷ port → ¬ Contains port 58 → Decides b (AreDigits port × (¬ IsPort port))
+    → Decides b (HasBadPort t)
+bad_after t host port b is none decides = (
+  λ yes. let both = decides.0 yes in (host, port, is, both.0, both.1),
+  λ (h, p, also, digits, bad).
+      let same = last_colon h host p port (sym also ∙ is) (no_colon p digits) none in
+      decides.1 (subst AreDigits same digits, subst (λ (q : List ℕ). ¬ IsPort q) same bad),
+)
+
+pub bad_without : (t : List ℕ) (b : Bool) → ¬ Contains t 58 → b ≡ false → Decides b (HasBadPort t)
+bad_without t b none is = (
+  λ yes. absurd (true≢false (sym yes ∙ is)),
+  λ (h, p, also, _, _). absurd (none (subst (λ (u : List ℕ). Contains u 58) (sym also) (has_colon h p))),
+)
 
 pub of_none : {A : Type 0} (N : Type 0) (P : A → Type 0) (o : Option A) → o ≡ None → MatchOption o N P → N
 of_none {A} N P o none is = subst (λ (x : Option A). MatchOption x N P) none is

@@ -1,5 +1,5 @@
 -- The login that a request shows.
-use Rattle.std.proofs.Common.{◌≡◌, ◌≢◌, ◌∙◌, ◌⊎◌, ◌==◌, List, [], ℕ, Bool, true, false, Option, None, Some, MatchOption, Result, Ok, Err, IfOk, OnOk, string_bytes, codes, sym, subst, inl, inr, refl}
+use Rattle.std.proofs.Common.{◌≡◌, ◌≢◌, ◌∙◌, ◌⊎◌, ◌==◌, List, [], ℕ, Bool, true, false, Option, None, Some, MatchOption, Result, Ok, Err, IfOk, OnOk, string_bytes, codes, sym, subst, inl, inr, refl, true≢false}
 use Rattle.std.proofs.lemmas.Bool.{eqb-false, eqb-true}
 use Rattle.http_server.specs.Response.{IsResponse}
 use Rattle.http_server.specs.declared.response.Response.{Response}
@@ -14,11 +14,12 @@ use Rattle.dav_kept.specs.Records.{RequestView}
 use Rattle.dav_server.specs.Head.{IsHead, Request}
 use Rattle.dav_wire.specs.declared.answer.Asked.{Asked}
 use Rattle.dav_wire.specs.declared.answer.Rejection.{Rejection}
-use Rattle.dav_wire.specs.declared.answer.Rejection.TheVariants.{Unauthorized, Forbidden, UnsupportedMediaType, Misdirected, TooManyRequests, NotImplemented, Unavailable}
+use Rattle.dav_wire.specs.declared.answer.Rejection.TheVariants.{BadRequest, Unauthorized, Forbidden, UnsupportedMediaType, Misdirected, TooManyRequests, NotImplemented, Unavailable}
 use Rattle.dav_live.specs.Admission.{AdmissionView}
-use Rattle.dav_live.specs.Hosts.{value_of}
+use Rattle.std.specs.Bool.{Decides}
+use Rattle.dav_live.specs.Hosts.{AsksBadPort, asked_host, value_of}
 use Rattle.dav_live.specs.Serving.{IsReplyTo, IsResponseTo, heard, told_to_wait}
-use Rattle.dav_live.specs.Waiting.{IsAfterLogin, IsAfterVerdict, MayBeHeard, ShowsLogin, judged_else, judged_nobody, judged_wrong, seconds_of, showed_none, wait_fields, was_misdirected, was_right, was_wrong}
+use Rattle.dav_live.specs.Waiting.{IsAfterLogin, IsAfterVerdict, MayBeHeard, ShowsLogin, judged_else, judged_nobody, judged_wrong, seconds_of, showed_none, wait_fields, was_for_no_port, was_misdirected, was_right, was_wrong}
 
 -- the value of the field is one
 pub shown_is : (a : AdmissionView) (r : Request) (value name password : List ℕ) → value_of (codes "authorization") r ≡ Some value
@@ -59,6 +60,10 @@ pub on_three : {T E A B C D : Type 0} (r : Result T E) → (A → B → C → D)
 on_three (Ok x) f a b c = f a b c
 on_three (Err e) f a b c = tt
 
+pub on_four : {T E A B C D F : Type 0} (r : Result T E) → (A → B → C → D → F) → OnOk r A → OnOk r B → OnOk r C → OnOk r D → OnOk r F
+on_four (Ok x) f a b c d = f a b c d
+on_four (Err e) f a b c d = tt
+
 same_or_not : (n m : ℕ) (b : Bool) → (n == m) ≡ b → (n ≡ m) ⊎ (n ≢ m)
 same_or_not n m true is = inl (eqb-true n m is)
 same_or_not n m false is = inr (eqb-false n m is)
@@ -66,14 +71,19 @@ same_or_not n m false is = inr (eqb-false n m is)
 -- ---- what is known after a request
 
 pub seen_login : (a : AdmissionView) (l : LoginsView) (r : Request) (status : ℕ) (after : LoginsView) (name password : List ℕ) → ShowsLogin a r name password
-    → (status ≡ 401 → after ≡ after_wrong l name password (seconds_of a)) → (status ≢ 401 → status ≢ 421 → after ≡ after_right l name password)
-    → (status ≡ 421 → after ≡ l) → IsAfterLogin a l r status after
-seen_login a l r status after name password shows wrong right other =
+    → (unseen : Bool) → Decides unseen (AsksBadPort (asked_host r))
+    → (unseen ≡ false → status ≡ 401 → after ≡ after_wrong l name password (seconds_of a))
+    → (unseen ≡ false → status ≢ 401 → status ≢ 421 → after ≡ after_right l name password)
+    → (status ≡ 421 → after ≡ l) → (unseen ≡ true → after ≡ l) → IsAfterLogin a l r status after
+seen_login a l r status after name password shows true asks wrong right other none =
+    subst (IsAfterLogin a l r status) (sym (none refl)) (was_for_no_port (asks.0 refl))
+seen_login a l r status after name password shows false asks wrong right other none =
+    let port : ¬ AsksBadPort (asked_host r) = λ bad. true≢false (sym (asks.1 bad)) in
     elim (same_or_not status 401 (status == 401) refl) [
-      | inl is ↦ subst (IsAfterLogin a l r status) (sym (wrong is)) (was_wrong name password shows is)
+      | inl is ↦ subst (IsAfterLogin a l r status) (sym (wrong refl is)) (was_wrong name password shows port is)
       | inr not ↦ elim (same_or_not status 421 (status == 421) refl) [
         | inl is ↦ subst (IsAfterLogin a l r status) (sym (other is)) (was_misdirected is)
-        | inr neither ↦ subst (IsAfterLogin a l r status) (sym (right not neither)) (was_right name password shows not neither)
+        | inr neither ↦ subst (IsAfterLogin a l r status) (sym (right refl not neither)) (was_right name password shows port not neither)
       ]
     ]
 
@@ -114,6 +124,7 @@ verdict_bare (Err e) a l r after none same = tt
 
 is_unauthorized : (v : Option Rejection) → (v ≡ Some Unauthorized) ⊎ (v ≢ Some Unauthorized)
 is_unauthorized None = inr (λ e. let wrong : None ≡ Some Unauthorized = e in cc)
+is_unauthorized (Some BadRequest) = inr (λ e. let wrong : Some BadRequest ≡ Some Unauthorized = e in cc)
 is_unauthorized (Some Unauthorized) = inl refl
 is_unauthorized (Some Forbidden) = inr (λ e. let wrong : Some Forbidden ≡ Some Unauthorized = e in cc)
 is_unauthorized (Some UnsupportedMediaType) = inr (λ e. let wrong : Some UnsupportedMediaType ≡ Some Unauthorized = e in cc)

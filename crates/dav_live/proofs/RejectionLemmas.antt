@@ -15,8 +15,8 @@ use Rattle.dav_server.specs.Head.{Request, is_same_name}
 use Rattle.dav_server.specs.Method.{GivesServed}
 use Rattle.dav_server.proofs.MeansWorld.{one_method}
 use Rattle.dav_wire.specs.declared.answer.Rejection.{Rejection}
-use Rattle.dav_live.specs.Hosts.{IsHostOf, TellsFor, alone, asked_host, before_port, own_names, value_of}
-use Rattle.dav_live.specs.Rejections.{HasAuthority, IsBodyRefused, IsOfHost, IsForged, IsUntaken, MayHaveMore, StatesAtMost, TellsRefusedBody, TellsUntaken, bodiless, body, forged, misdirected, takes_body, unserved}
+use Rattle.dav_live.specs.Hosts.{AsksBadPort, IsHostOf, TellsFor, alone, asked_host, before_port, own_names, value_of}
+use Rattle.dav_live.specs.Rejections.{HasAuthority, IsBodyRefused, IsOfHost, IsForged, IsUntaken, MayHaveMore, StatesAtMost, TellsRefusedBody, TellsUntaken, bad_port, bodiless, body, forged, misdirected, takes_body, unserved}
 use Rattle.dav_live.proofs.HostLemmas.{front_of_last, has_colon, no_colon}
 
 -- ---- origins
@@ -79,19 +79,22 @@ decided_not b decides is p = true≢false (sym (decides.1 p) ∙ is)
 
 pub no_reason : (hosts : List (List ℕ)) (r : Request) (why : Rejection) → ¬ IsForged r → ¬ MayHaveMore 0 r → ¬ IsUntaken hosts r why
 no_reason hosts r _ own few (forged is) = own is
-no_reason hosts r _ own few (misdirected _ more host) = few more
-no_reason hosts r _ own few (body _ more host refused) = few more
+no_reason hosts r _ own few (bad_port _ more port) = few more
+no_reason hosts r _ own few (misdirected _ more port host) = few more
+no_reason hosts r _ own few (body _ more port host refused) = few more
 
-no_reason_by_body : (hosts : List (List ℕ)) (r : Request) (why : Rejection) → ¬ IsForged r → TellsFor hosts (asked_host r) true → ((y : Rejection) → ¬ IsBodyRefused r y)
+no_reason_by_body : (hosts : List (List ℕ)) (r : Request) (why : Rejection) → ¬ IsForged r → ¬ AsksBadPort (asked_host r) → TellsFor hosts (asked_host r) true → ((y : Rejection) → ¬ IsBodyRefused r y)
     → ¬ IsUntaken hosts r why
-no_reason_by_body hosts r _ own host none (forged is) = own is
-no_reason_by_body hosts r _ own host none (misdirected _ more other) = not_both_hosts hosts (asked_host r) host other
-no_reason_by_body hosts r why own host none (body _ more _ refused) = none why refused
+no_reason_by_body hosts r _ own port host none (forged is) = own is
+no_reason_by_body hosts r _ own port host none (bad_port _ more bad) = port bad
+no_reason_by_body hosts r _ own port host none (misdirected _ more _ other) = not_both_hosts hosts (asked_host r) host other
+no_reason_by_body hosts r why own port host none (body _ more _ _ refused) = none why refused
 
-pub by_body : (hosts : List (List ℕ)) (r : Request) (found : Option Rejection) → ¬ IsForged r → MayHaveMore 0 r → TellsFor hosts (asked_host r) true
+pub by_body : (hosts : List (List ℕ)) (r : Request) (found : Option Rejection) → ¬ IsForged r → MayHaveMore 0 r → ¬ AsksBadPort (asked_host r)
+    → TellsFor hosts (asked_host r) true
     → TellsRefusedBody r found → TellsUntaken hosts r found
-by_body hosts r (Some why) own more host refused = body own more host refused
-by_body hosts r None own more host none = λ why is. no_reason_by_body hosts r why own host none is
+by_body hosts r (Some why) own more port host refused = body own more port host refused
+by_body hosts r None own more port host none = λ why is. no_reason_by_body hosts r why own port host none is
 
 -- a method that is served has one reading
 pub body_taken : (r : Request) (m : DavMethod) (why : Rejection) → GivesServed r.method (Ok m) → (takes_body m ≡ true) ⊎ StatesAtMost 0 r → ¬ IsBodyRefused r why

@@ -11,7 +11,7 @@ use Rattle.dav_wire.specs.declared.answer.Rejection.{Rejection}
 use Rattle.dav_wire.specs.declared.answer.Rejection.TheVariants.{TooManyRequests, Unauthorized, Unavailable}
 use Rattle.dav_live.specs.Admission.{AdmissionView, MayAskIn, IsClosedTo, IsHeadKept, IsMadeBy, users_for}
 use Rattle.dav_live.specs.Hosts.{value_of}
-use Rattle.dav_live.specs.Rejections.{IsPlainRead, IsSafe, IsUntaken, MayHaveMore, TellsUntaken, body, forged, misdirected}
+use Rattle.dav_live.specs.Rejections.{IsPlainRead, IsSafe, IsUntaken, MayHaveMore, TellsUntaken, bad_port, body, forged, misdirected}
 use Rattle.dav_live.specs.Serving.{IsJudged, StaysAll, admission_of, judged, left, logins_of}
 use Rattle.dav_live.specs.Verdicts.{IsRejected, IsSenderAsked, IsTakeable, IsVerdict, PlainReadsMayGoOn, TellsRejected, goes_on, rejected, rejection_of_wait, rejection_without_leave, unknown, untaken, waits, without_leave}
 use Rattle.dav_live.specs.Waiting.{IsAfterVerdict, MayBeHeard, ShowsLogin, seconds_of}
@@ -100,8 +100,9 @@ plain_is_short most r plain (inr coded) = coded plain.no_coding
 
 plain_is_taken : (hosts : List (List ℕ)) (r : Request) (why : Rejection) → IsPlainRead r → ¬ IsUntaken hosts r why
 plain_is_taken hosts r _ plain (forged is) = is.0 (plain_is_safe r plain)
-plain_is_taken hosts r _ plain (misdirected _ more _) = plain_is_short 0 r plain more
-plain_is_taken hosts r _ plain (body _ more _ _) = plain_is_short 0 r plain more
+plain_is_taken hosts r _ plain (bad_port _ more _) = plain_is_short 0 r plain more
+plain_is_taken hosts r _ plain (misdirected _ more _ _) = plain_is_short 0 r plain more
+plain_is_taken hosts r _ plain (body _ more _ _ _) = plain_is_short 0 r plain more
 
 pub plain_reads_may_go_on : PlainReadsMayGoOn
 plain_reads_may_go_on a r plain = (

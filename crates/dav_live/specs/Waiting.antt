@@ -6,7 +6,7 @@ use Rattle.dav_server.specs.Head.{Request}
 use Rattle.dav_wire.specs.declared.answer.Rejection.{Rejection}
 use Rattle.dav_wire.specs.declared.answer.Rejection.TheVariants.{Unauthorized}
 use Rattle.dav_live.specs.Admission.{AdmissionView}
-use Rattle.dav_live.specs.Hosts.{value_of}
+use Rattle.dav_live.specs.Hosts.{AsksBadPort, asked_host, value_of}
 
 -- a request shows a login of this name and password, where there is a list of users (RFC 7617, section 2)
 pub record ShowsLogin (a : AdmissionView) (r : Request) (name password : List ℕ) : Type 0 where
@@ -36,13 +36,14 @@ abbrev pub wait_fields : ℕ → List (List ℕ × List ℕ)
 wait_fields seconds = (codes "retry-after", if seconds == 1 then codes "1" else codes "60") ∷ []
 
 -- What is known of logins after a request was answered with this status. The login that it shows is wrong where that is 401, and right
--- where it is neither that nor 421, of which the login isn't looked at.
+-- where it is neither that nor 421; of one that is 421, or for a port that can't be, the login isn't looked at.
 pub data IsAfterLogin (a : AdmissionView) (l : LoginsView) (r : Request) (status : ℕ) : LoginsView → Type 0 where
-  was_wrong : (name password : List ℕ) → ShowsLogin a r name password → status ≡ 401
+  was_wrong : (name password : List ℕ) → ShowsLogin a r name password → ¬ AsksBadPort (asked_host r) → status ≡ 401
       → IsAfterLogin a l r status (after_wrong l name password (seconds_of a))
-  was_right : (name password : List ℕ) → ShowsLogin a r name password → status ≢ 401 → status ≢ 421
+  was_right : (name password : List ℕ) → ShowsLogin a r name password → ¬ AsksBadPort (asked_host r) → status ≢ 401 → status ≢ 421
       → IsAfterLogin a l r status (after_right l name password)
   was_misdirected : status ≡ 421 → IsAfterLogin a l r status l
+  was_for_no_port : AsksBadPort (asked_host r) → IsAfterLogin a l r status l
   showed_none : ((name password : List ℕ) → ¬ ShowsLogin a r name password) → IsAfterLogin a l r status l
 
 -- And after one was judged by its head: the login that it shows is wrong where that is why it isn't taken.

@@ -46,12 +46,19 @@ fn is_port(digits: &[u8]) -> bool
     digits.is_empty() || is_at_most(digits, MOST_PORT)
 }
 
+// Whether these are digits, and no port.
+fn is_bad_port(text: &[u8]) -> bool
+    ensures { Decides result (AreDigits text.now × ¬ IsPort text.now) }
+{
+    are_digits(text) && !is_port(text)
+}
+
 // Whether an authority has digits as its port that are none.
 fn has_bad_port(authority: &[u8]) -> bool
     ensures { Decides result (HasBadPort authority.now) }
 {
     match split_at_colon(authority) {
-        Some((_, port)) => are_digits(port) && !is_port(port),
+        Some((_, port)) => is_bad_port(port),
         None => false,
     }
 }

@@ -1,4 +1,5 @@
 pub mod Bodies
+pub mod ChunkTexts
 pub mod Events
 pub mod Heads
 pub mod LawAnswers

@@ -1,8 +1,10 @@
 -- What the contracts of a connection mean.
-use Rattle.std.specs.Prelude.{◌≡◌, ◌≢◌, ℕ, ◌<◌, ◌≤◌, ◌⊎◌, List, [], ◌∷◌, length, map, IsTrue, IsFalse}
+use Rattle.std.specs.Prelude.{◌≡◌, ◌≢◌, ℕ, ◌+◌, ◌<◌, ◌≤◌, ◌⊎◌, List, [], ◌∷◌, ◌++◌, flat_map, length, map, sum_by, IsTrue, IsFalse}
+use Rattle.std.specs.List.{AllByRecursion}
 use Rattle.httparse.specs.Grammar.{RequestHead, ReadsRequest, print_response, status_code}
 use Rattle.http1.specs.declared.conn.Limits.{Limits}
 use Rattle.http1.specs.declared.framing.MethodKind.{MethodKind}
+use Rattle.http1.specs.ChunkedBody.{Chunk, IsChunk, IsSizeLine, SizeLine, chunk_size, extension_len, print_chunk, print_size_line}
 use Rattle.http1.specs.Message as Wire
 use Rattle.http1.specs.Server.{is_head}
 use Rattle.http1.specs.Message.{known_of, ReadsResponseMessage}
@@ -14,7 +16,7 @@ use Rattle.dav_wire.specs.declared.state.Refusal.{Refusal}
 use Rattle.dav_wire.specs.declared.state.State.TheVariants.{Open}
 use Rattle.dav_wire.specs.Exchange.{Call, ReadsCall}
 use Rattle.dav_wire.specs.History.{History, IsServed, Rests}
-use Rattle.dav_wire.specs.Refusals.{closing_body, closing_text, refusal_status, rejection_status}
+use Rattle.dav_wire.specs.Refusals.{chunks_stated, closing_body, closing_text, refusal_status, rejection_status}
 
 -- these bytes, by themselves, are this head and no other, within the limits of length and of fields
 pub record IsHeadAlone (config : Config) (bytes : List ℕ) (h : RequestHead) : Type 0 where
@@ -75,3 +77,11 @@ RefusalsAreRead =
     → ((why : Refusal) → IsReadAsLast method (refusal_status why))
     × ((why : Rejection) → IsReadAsLast method (rejection_status why))
     × IsReadAsLast method 500
+
+-- What came of a body in chunks states the bytes of its whole chunks and the size of the next one, once the line of that came whole, however
+-- little came after it (RFC 9112, section 7.1).
+abbrev pub ChunksStateTheirSizes : Type 0
+ChunksStateTheirSizes =
+    (limits : Limits) (chunks : List Chunk) (line : SizeLine) (came : List ℕ) → AllByRecursion IsChunk chunks → IsSizeLine line
+    → sum_by (λ c. extension_len c.line) chunks + extension_len line ≤ limits.max_extensions_len
+    → length (flat_map (λ c. c.bytes) chunks) + chunk_size line ≤ chunks_stated limits (flat_map print_chunk chunks ++ (print_size_line line ++ came))

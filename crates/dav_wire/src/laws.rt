@@ -1,5 +1,5 @@
 //! Laws of a connection. Each function does nothing: its contract is a theorem on the definitions.
-ghost use Rattle.dav_wire.specs.Laws.{HeadsStandAlone, CallsAreRequests, RequestsAreDetermined, ConnectionsNeverStall, RefusalsAreRead};
+ghost use Rattle.dav_wire.specs.Laws.{HeadsStandAlone, CallsAreRequests, RequestsAreDetermined, ChunksStateTheirSizes, ConnectionsNeverStall, RefusalsAreRead};
 
 /// The bytes that are handed over as a head are, by themselves, the head that was read in the stream: nothing is smuggled
 /// past the answerer's own reading.
@@ -25,4 +25,10 @@ pub fn connections_never_stall()
 /// a body, which says that the connection is closed.
 pub fn refusals_are_read()
     ensures { RefusalsAreRead }
+{}
+
+/// What came of a body in chunks states the size of each chunk whose line came: so one that is too long is refused at its line.
+#[tactic(auto, using(crate::proofs::ChunkTexts::chunks_state_their_sizes))]
+pub fn chunks_state_their_sizes()
+    ensures { ChunksStateTheirSizes }
 {}

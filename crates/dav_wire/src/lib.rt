@@ -16,6 +16,9 @@ mod tests;
 
 pub use answer::{Answerer, Asked, Rejection, Stop};
 pub use explained::explanation;
-pub use laws::{calls_are_requests, connections_never_stall, heads_stand_alone, refusals_are_read};
+pub use laws::{
+    calls_are_requests, chunks_state_their_sizes, connections_never_stall, heads_stand_alone,
+    refusals_are_read,
+};
 pub use peer::Peer;
 pub use state::{Config, Reason, Refusal, State};

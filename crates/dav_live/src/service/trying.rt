@@ -4,6 +4,7 @@ ghost use Rattle.http_server.specs.Response.{IsBlank, IsResponse};
 ghost use Rattle.dav_live.specs.Waiting.{wait_fields};
 
 use crate::ends::Ends;
+use crate::hosts::asks_bad_port;
 use crate::service::Service;
 use crate::told::Replied;
 use dav_access::Credentials;
@@ -15,7 +16,7 @@ use http_header::{HeaderValue, RETRY_AFTER};
 use http_server::Response;
 
 impl<H: Ends + Drop, J: Keeps + Drop> Service<H, J> {
-    ghost use Rattle.std.specs.Prelude.{◌≡◌, ◌≢◌, Some, IfOk, OnOk, string_bytes};
+    ghost use Rattle.std.specs.Prelude.{◌≡◌, ◌≢◌, false, true, Some, IfOk, OnOk, string_bytes};
     ghost use Rattle.http_server.specs.Response.{IsBlank};
     ghost use Rattle.dav_access.specs.Logins.{after_right, after_wrong, wait_of};
     ghost use Rattle.dav_server.specs.Head.{IsHead};
@@ -57,7 +58,7 @@ impl<H: Ends + Drop, J: Keeps + Drop> Service<H, J> {
         match self.wait_for(&login) {
             0 => {
                 self.respond_to(head, asked, response)?;
-                self.see_login(&login, response.status.as_u16())
+                self.see_login(&login, response.status.as_u16(), asks_bad_port(head))
             }
             seconds => {
                 fill_wait(seconds, response)?;
@@ -66,17 +67,22 @@ impl<H: Ends + Drop, J: Keeps + Drop> Service<H, J> {
         }
     }
 
-    // Notes that a login was wrong or right, by the status of its request.
-    fn see_login(&mut self, login: &Credentials, status: u16) -> Result<(), Stop>
-        ensures wrong { OnOk result (status ≡ 401 → logins_of self.new
+    // Notes that a login was wrong or right, by the status of its request, unless it wasn't looked at.
+    fn see_login(&mut self, login: &Credentials, status: u16, is_unseen: bool) -> Result<(), Stop>
+        ensures wrong { OnOk result (is_unseen ≡ false → status ≡ 401 → logins_of self.new
             ≡ after_wrong (logins_of self.old) (string_bytes login.now.name)
             (string_bytes login.now.password) (seconds_of (admission_of self.old))) }
-        ensures right { OnOk result (status ≢ 401 → status ≢ 421 → logins_of self.new
-            ≡ after_right (logins_of self.old) (string_bytes login.now.name)
+        ensures right { OnOk result (is_unseen ≡ false → status ≢ 401 → status ≢ 421
+            → logins_of self.new ≡ after_right (logins_of self.old) (string_bytes login.now.name)
             (string_bytes login.now.password)) }
         ensures other { OnOk result (status ≡ 421 → logins_of self.new ≡ logins_of self.old) }
+        ensures unseen { OnOk result
+            (is_unseen ≡ true → logins_of self.new ≡ logins_of self.old) }
         ensures same { StaysAll self.old self.new }
     {
+        if is_unseen {
+            return Ok(());
+        }
         match status {
             401 => self.see_wrong(login),
             421 => Ok(()),

@@ -5,7 +5,7 @@ use Rattle.dav_kept.specs.Kept.{held_by}
 use Rattle.dav_kept.specs.declared.kept.Kept.{Kept}
 use Rattle.dav_live.specs.Serving.{IsResponseTo, admission_of, held_of, kept_of, logins_of}
 use Rattle.dav_live.specs.Waiting.{ShowsLogin, seconds_of}
-use Rattle.dav_live.proofs.LoginLemmas.{on_three, replied_bare, replied_heard, replied_wait, seen_login}
+use Rattle.dav_live.proofs.LoginLemmas.{on_four, on_three, replied_bare, replied_heard, replied_wait, seen_login}
 use Rattle.dav_live.proofs.RunLemmas.{goes_on_same}
 use Rattle.dav_live.proofs.ServingLemmas.{at_none, holds_on}
 use Rattle.dav_live.proofs.service.Service.respond_in_time.Goals as goal
@@ -33,17 +33,19 @@ returns-in-0-clause-replies g c =
     let free : wait_of l name password (seconds_of a) ≡ 0 = sym c.wait_for.ensures ∙ c.in-0.is in
     let status : c.as_u16.result ≡ c.respond_to-in-0.new.response.status = c.as_u16.ensures.value in
     let at : seconds_of (admission_of c.respond_to-in-0.new.self) ≡ seconds_of a = ap seconds_of done.same in
-    on_three c.see_login.result
-    (λ wrong right other. replied_heard g.H.Handles.answers g.H.Ends.refuses g.H.Ends.looks a l (held_of c.args.self.now) c.args.asked.now c.args.head.now c.requires.head
+    on_four c.see_login.result
+    (λ wrong right other unseen. replied_heard g.H.Handles.answers g.H.Ends.refuses g.H.Ends.looks a l (held_of c.args.self.now) c.args.asked.now c.args.head.now c.requires.head
     c.respond_to-in-0.new.response (held_of c.see_login.new.self) (logins_of c.see_login.new.self) name password shows free
     (subst (λ (k : Kept g.row.H.Denot g.row.J.Denot). IsResponseTo g.H.Handles.answers g.H.Ends.refuses g.H.Ends.looks a (held_of c.args.self.now) c.args.asked.now c.respond_to-in-0.new.response (held_by k))
     (sym c.see_login.ensures.same.1) done.responds)
     (seen_login a l c.args.head.now c.respond_to-in-0.new.response.status (logins_of c.see_login.new.self) name password shows
-    (λ is. wrong (status ∙ is) ∙ ap (λ (n : ℕ). after_wrong (logins_of c.respond_to-in-0.new.self) name password n) at
+    c.asks_bad_port.result c.asks_bad_port.ensures
+    (λ seen is. wrong seen (status ∙ is) ∙ ap (λ (n : ℕ). after_wrong (logins_of c.respond_to-in-0.new.self) name password n) at
     ∙ ap (λ (v : LoginsView). after_wrong v name password (seconds_of a)) done.logins)
-    (λ not neither. right (λ is. not (sym status ∙ is)) (λ is. neither (sym status ∙ is)) ∙ ap (λ (v : LoginsView). after_right v name password) done.logins)
-    (λ is. other (status ∙ is) ∙ done.logins)))
-    c.see_login.ensures.wrong c.see_login.ensures.right c.see_login.ensures.other
+    (λ seen not neither. right seen (λ is. not (sym status ∙ is)) (λ is. neither (sym status ∙ is)) ∙ ap (λ (v : LoginsView). after_right v name password) done.logins)
+    (λ is. other (status ∙ is) ∙ done.logins)
+    (λ is. unseen is ∙ done.logins)))
+    c.see_login.ensures.wrong c.see_login.ensures.right c.see_login.ensures.other c.see_login.ensures.unseen
 
 pub returns-clause-replies : goal.returns-clause-replies
 returns-clause-replies g c =
