@@ -1,12 +1,12 @@
 //! The marks, which say how far the blocks reached.
-ghost use Rattle.std.specs.Prelude.{◌≡◌, ◌≢◌, ◌⊎◌, ◌≤◌, ◌<◌, ◌+◌, ◌^◌, ◌++◌, ◌∷◌, [], ℕ, List, Some, length, slice_index, IsTrue, IfOk, IfErr, IfSome, OnOk, IsErrOf, IsNone, MatchOption};
+ghost use Rattle.std.specs.Prelude.{◌≡◌, ◌≢◌, ◌⊎◌, ◌≤◌, ◌<◌, ◌+◌, ◌^◌, ◌++◌, ◌∷◌, [], ℕ, List, Some, length, replicate, slice_index, IsTrue, IfOk, IfErr, IfSome, OnOk, IsErrOf, IsNone, MatchOption};
 ghost use Rattle.sqlite_disk.specs.Disk.{Follows, Holds, Only, Torn};
 ghost use Rattle.dav_journal.specs.Block.{IsBlock, IsNoBlock, front_of, head_of, twice};
 ghost use Rattle.dav_journal.specs.File.{IsBegun, Recovers};
-ghost use Rattle.dav_journal.specs.Mark.{IsLastMark, IsMark, IsMarkPlace, NoneMarkedPast};
+ghost use Rattle.dav_journal.specs.Mark.{IsBlank, IsLastMark, IsMark, IsMarkPlace, NoneMarkedPast};
 ghost use Rattle.dav_journal.specs.declared.error.JournalError.TheVariants.{Damaged};
 ghost use Rattle.dav_journal.specs.Error.{IsNoDamage};
-ghost use Rattle.dav_journal.specs.Journal.{HasRead, IsBare, IsClean, IsCleared, IsKept, IsOpened, IsReading, IsShut, IsSynced, IsWrittenBlock, LeavesAtMost, LeavesBehind, LeavesEither, LeavesOnly, OnlyReads, Stays, blocks_end, blocks_len, disk_of, file_of};
+ghost use Rattle.dav_journal.specs.Journal.{HasRead, IsBare, IsClean, IsCleared, IsKept, IsOpened, IsReading, IsShut, IsSynced, IsWrittenBlock, LeavesAtMost, LeavesBehind, LeavesEither, LeavesOnly, OnlyLooks, OnlyReads, Stays, blocks_end, blocks_len, disk_of, file_of};
 ghost use Rattle.dav_journal.specs.Write.{HasZeros, KeepsBelow};
 
 use crate::block::{FRONT, twice_bytes};
@@ -80,12 +80,7 @@ impl<D: Disk + Drop> Journal<D> {
         ensures bare { OnOk result (IsClean D.Disk self.new → IsSynced D.Disk self.old
             → IsOpened D.Disk self.old → IsBare D.Disk self.new) }
     {
-        if !self.disk.may_be_used() {
-            return Err(JournalError::Io);
-        }
-        let mut marks = [0u8; 3 * MARK];
-        self.disk.read_at(FRONT, &mut marks)?;
-        if marks != [0; 3 * MARK] {
+        if !self.has_no_marks()? {
             return Err(JournalError::Foreign);
         }
         self.mark = FRONT;
@@ -103,6 +98,11 @@ impl<D: Disk + Drop> Journal<D> {
             → LeavesOnly D.Disk self.new contents }
         ensures behind { IsTrue (D.Disk.is_mixing (disk_of self.old)) → (generation : ℕ)
             → LeavesBehind D.Disk self.old generation → LeavesBehind D.Disk self.new generation }
+        ensures kept { OnOk result (IsTrue (D.Disk.is_mixing (disk_of self.old))
+            → (contents : List (List ℕ)) → IsKept D.Disk self.old contents
+            → IsKept D.Disk self.new contents) }
+        ensures blank { OnOk result ((at : ℕ) → IsMarkPlace at
+            → IsBlank (file_of D.Disk self.new) at) }
     {
         if !self.disk.may_be_used() {
             return Err(JournalError::Io);
@@ -111,6 +111,41 @@ impl<D: Disk + Drop> Journal<D> {
         self.disk.sync()?;
         self.mark = FRONT;
         Ok(())
+    }
+
+    /// Writes zeros over all marks, where there are some: what came late to a file without blocks.
+    /// After an error nothing more may be asked.
+    pub fn drop_late_marks(&mut self) -> Result<(), JournalError>
+        ensures clean { IsClean D.Disk self.new → IsClean D.Disk self.old }
+        ensures kept { OnOk result ((contents : List (List ℕ)) → IsKept D.Disk self.old contents
+            → IsKept D.Disk self.new contents) }
+        ensures any_moment { (contents : List (List ℕ)) → IsKept D.Disk self.old contents
+            → LeavesOnly D.Disk self.new contents }
+        ensures unmarked { OnOk result (IsClean D.Disk self.new
+            → IsTrue (D.Disk.is_mixing (disk_of self.new))
+            → (at : ℕ) → IsMarkPlace at → IsBlank (file_of D.Disk self.new) at) }
+    {
+        if self.has_no_marks()? {
+            return Ok(());
+        }
+        if !self.disk.mixes() {
+            return Ok(());
+        }
+        self.clear_all()
+    }
+
+    // Whether zeros are at the places of the marks.
+    fn has_no_marks(&mut self) -> Result<bool, JournalError>
+        ensures looks { OnlyLooks D.Disk self.old self.new }
+        ensures blank { IfOk result (λ is. IsTrue is → IsClean D.Disk self.new
+            → Holds (file_of D.Disk self.old) 24 (replicate 48 0)) }
+    {
+        if !self.disk.may_be_used() {
+            return Err(JournalError::Io);
+        }
+        let mut marks = [0u8; 3 * MARK];
+        self.disk.read_at(FRONT, &mut marks)?;
+        Ok(marks == [0; 3 * MARK])
     }
 
     // Writes zeros over the marks but for the one at this place.

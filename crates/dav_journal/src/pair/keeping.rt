@@ -237,6 +237,7 @@ impl<D: Disk + Drop> Pair<D> {
         let Some(generation) = self.generation.checked_add(1) else {
             return Err(JournalError::NoRoom);
         };
+        self.spare.drop_late_marks()?;
         self.spare
             .keep_both(alloc, &generation.to_be_bytes(), content)?;
         self.spare.keep_mark()?;

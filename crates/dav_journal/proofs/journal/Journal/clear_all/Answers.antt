@@ -1,7 +1,7 @@
 use Rattle.std.proofs.Common.{List, ℕ, replicate, subst, sym, refl, inl, arith}
 use Rattle.sqlite_disk.specs.Disk.{Holds, Only}
 use Rattle.dav_journal.proofs.BlockLemmas.{blocks_le}
-use Rattle.dav_journal.proofs.FrontLemmas.{all_blank, cleared_left, read_cleared}
+use Rattle.dav_journal.proofs.FrontLemmas.{all_blank, cleared_left, fade_rests, read_cleared, zeros_fade}
 use Rattle.dav_journal.proofs.MarkLemmas.{blank_mark, torn_others}
 use Rattle.dav_journal.specs.Journal.{HasFront}
 use Rattle.dav_journal.specs.Mark.{KeepsOthers}
@@ -62,3 +62,24 @@ returns-clause-bare g c opened =
       place = inl refl;
       blank = λ at is. all_blank _ at zeros is;
     }
+
+pub returns-clause-kept : goal.returns-clause-kept
+returns-clause-kept g c mixing contents kept =
+    let j = c.args.self.now in
+    let zeros : Holds (g.D.Disk.seen c.sync.new.self) 24 (replicate 48 0) = subst (λ (f : List ℕ). Holds f 24 (replicate 48 0)) (sym c.sync.ensures.seen) (c.in_ok-write_at.ensures.written (omega arith)) in
+    record {
+      small = kept.small;
+      low = kept.low;
+      outcomes = λ left may.
+          let (before, was, step) = c.write_at.ensures.mixed mixing (omega arith) left (c.sync.ensures.crash left may) in
+          let rests = kept.outcomes before was in
+          let long = blocks_le j.key before 72 contents j.end rests.blocks in
+          fade_rests j.key contents j.end j.zeros before left rests (zeros_fade 24 48 before left (omega arith) (omega arith) (omega (arith, long, rests.some, rests.within)) step);
+      place = inl refl;
+      blank = all_blank _ 24 zeros (inl refl);
+    }
+
+pub returns-clause-blank : goal.returns-clause-blank
+returns-clause-blank g c at is =
+    let zeros : Holds (g.D.Disk.seen c.sync.new.self) 24 (replicate 48 0) = subst (λ (f : List ℕ). Holds f 24 (replicate 48 0)) (sym c.sync.ensures.seen) (c.in_ok-write_at.ensures.written (omega arith)) in
+    all_blank _ at zeros is
