@@ -16,7 +16,6 @@ use Rattle.dav_core.specs.Lists.{is_empty}
 use Rattle.dav_core.specs.Locks.{Requester, deleted, requester_of}
 use Rattle.dav_core.specs.Path.{Path, PathText, names, parent_of, is_at_or_under, star}
 use Rattle.http_header.specs.FieldValue.{FieldValue}
-use Rattle.dav_engine.specs.BackendView.{BackendView}
 use Rattle.dav_engine.specs.Caller.{Caller, requester}
 use Rattle.dav_engine.specs.Conditions.{Conditions, if_match_get_tokens}
 use Rattle.dav_engine.specs.ConditionView.{texts_of, tokens_or_status}
@@ -472,17 +471,6 @@ module _ (m : DavMethod) (h : CopyHeaders) (p : PathText) (who : Caller) where
       source_found q found r {mid = mid} {new = new} {ls = ls} {ms = ms} one path more =
           headed (follows_ask one (subst (λ (o : PathText). Follows as_is (copy_found m deep h o d who found) mid ls r new ms) path more))
 
--- ---- a copy and a move by themselves
-
-pub copies_for : (plan : ℕ → MethodPlan (List CopyFault)) (last : Result (Option FsError) AllocError) {r : Result (Unit {0}) DavError} {one who : Caller} {old new : StoreState} {before after : List PathStatus}
-    → one ≡ who → Walks copy_report last_refusal (plan one.moment) old before after last new → r ≡ copy_result last → Copies (plan who.moment) old before after r new
-copies_for plan last {old = old} {new} {before} {after} same walk is =
-    record { last = last; walks = subst (λ (w : Caller). Walks copy_report last_refusal (plan w.moment) old before after last new) same walk; result_is = is }
-
-pub copies_as : (plan : ℕ → MethodPlan (List CopyFault)) {one who : Caller} {old new : StoreState} {before after : List PathStatus} {r : Result (Unit {0}) DavError}
-    → one ≡ who → Copies (plan one.moment) old before after r new → Copies (plan who.moment) old before after r new
-copies_as plan {old = old} {new} {before} {after} {r} same done = subst (λ (w : Caller). Copies (plan w.moment) old before after r new) same done
-
 -- ---- with equal arguments
 
 pub clearing_walked : (deep : Bool) (now : ℕ) (d : PathText) {seen there : Option DavMetaData} {old new : StoreState} {before after : List PathStatus} {clean : Bool}
@@ -507,8 +495,3 @@ any_other (Err e) named = tt
 
 pub headers_other : {headers : Headers} {p : PathText} (h : CopyHeaders) → AreCopyHeaders headers p h → IfOk h.destination (λ q. q.bytes ≢ star)
 headers_other h are = any_other h.destination are.destination
-
--- a part that was carried out on a store was carried out on the state of a backend of it
-pub copies_lent : {F A : Type 0} {plan : MethodPlan (List CopyFault)} {fs : F} {locks : Option A} {s t : StoreState} {ls : Locks} {before after : List PathStatus} {r : Result (Unit {0}) DavError} (old : BackendView F A)
-    → ◌≡◌ {A = BackendView F A} (record { fs = fs; ls = locks; state = record { store = s; locks = ls } }) old → Copies plan s before after r t → Copies plan old.state.store before after r t
-copies_lent {plan = plan} {t = t} {before = before} {after} {r} old same done = subst (λ o. Copies plan o.state.store before after r t) same done

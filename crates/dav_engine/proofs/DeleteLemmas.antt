@@ -167,10 +167,3 @@ walked_for deep p dir {old} {new} {before} {after} {clean} same walk = subst (λ
 pub stopped_for : {one who : Caller} (deep : Bool) (p : PathText) (dir : Bool) {old new : StoreState}
     → one ≡ who → StoppedIn (removal deep one.moment p dir) old new → StoppedIn (removal deep who.moment p dir) old new
 stopped_for deep p dir {old} {new} same stop = subst (λ w. StoppedIn (removal deep w.moment p dir) old new) same stop
-
--- ---- a removal by itself
-
-pub removes_for : {one who : Caller} (deep : Bool) (p : PathText) (dir : Bool) (clean : Result Bool AllocError) {r : Result (Unit {0}) DavError} {old new : StoreState} {before after : List PathStatus}
-    → one ≡ who → Walks report_of is_empty (removal deep one.moment p dir) old before after clean new → r ≡ removal_result after clean → Removes (removal deep who.moment p dir) old before after r new
-removes_for deep p dir clean {r} {old} {new} {before} {after} same walk is =
-    record { clean = clean; walks = subst (λ (w : Caller). Walks report_of is_empty (removal deep w.moment p dir) old before after clean new) same walk; result_is = is }

@@ -19,7 +19,7 @@ use Rattle.dav_engine.specs.Plan.{Done, Ask, Look, Keep, Locks, Ran, ran_done, C
 use Rattle.dav_engine.specs.Propfind.{FindHeaders, Query, Responses, query_in, tell_itself, tell_below, tells_itself, tells_members, is_infinite, is_served_depth, finite_depth, found_reply, propfind_reply, propfind_found, propfind_if, propfind}
 use Rattle.dav_engine.specs.Properties.{Writer, writer, WithQuota, properties_of, told_by}
 use Rattle.dav_engine.specs.Reply.{Reply, Header}
-use Rattle.dav_engine.specs.PropWriter.{PropWriter, started, alone}
+use Rattle.dav_engine.specs.ResponseWriter.{ResponseWriter, started, alone}
 use Rattle.dav_engine.specs.Taking.{FollowsHandingOn}
 use Rattle.dav_engine.proofs.CutPlans.{cut_first, cut_bind, cut_in}
 use Rattle.dav_engine.proofs.Following.{ran_bind, follows_ask, follows_done}
@@ -46,15 +46,15 @@ module _ (locks : Locks) (h : FindHeaders) (w : Writer) (p : PathText) (m : DavM
   abbrev one_response : WithQuota ElementTree → MethodPlan Responses
   one_response one = gives (one.0 ∷ [], one.1)
 
-  pub itself_told : {T : Type 0} (opened taken : T → ElementTree → T) (to : T) (old mid : PropWriter T) {s t : StoreState} → true ≡ tells_itself h.depth → old ≡ started opened w to
+  pub itself_told : {T : Type 0} (opened taken : T → ElementTree → T) (to : T) (old mid : ResponseWriter T) {s t : StoreState} → true ≡ tells_itself h.depth → old ≡ started opened w to
       → Told taken locks alone (properties_of old.writer p m) old mid s t → Told taken locks as_is (λ known. itself) (started opened w to) mid s t
   itself_told {T} opened taken to old mid {s} {t} said fresh one =
-      let here : Told taken locks alone (properties_of w p m) (started opened w to) mid s t = subst (λ (o : PropWriter T). Told taken locks alone (properties_of o.writer p m) o mid s t) fresh one in
+      let here : Told taken locks alone (properties_of w p m) (started opened w to) mid s t = subst (λ (o : ResponseWriter T). Told taken locks alone (properties_of o.writer p m) o mid s t) fresh one in
       (here.0 ∷ [], subst (λ b. Gave locks (tell_itself b w p m) s (here.0 ∷ [], mid.quota) t) said (ran_bind one_response here.1 ran_done), here.2)
 
-  pub itself_untold : {T : Type 0} (opened taken : T → ElementTree → T) (to : T) (mid : PropWriter T) {s : StoreState} → false ≡ tells_itself h.depth → mid ≡ started opened w to → Told taken locks as_is (λ known. itself) (started opened w to) mid s s
+  pub itself_untold : {T : Type 0} (opened taken : T → ElementTree → T) (to : T) (mid : ResponseWriter T) {s : StoreState} → false ≡ tells_itself h.depth → mid ≡ started opened w to → Told taken locks as_is (λ known. itself) (started opened w to) mid s s
   itself_untold {T} opened taken to mid {s} said fresh =
-      subst (λ (o : PropWriter T). Told taken locks as_is (λ known. itself) (started opened w to) o s s) (sym fresh)
+      subst (λ (o : ResponseWriter T). Told taken locks as_is (λ known. itself) (started opened w to) o s s) (sym fresh)
       (nothing_told taken locks (λ known. itself) (started opened w to) (subst (λ b. Gave locks (tell_itself b w p m) s ([], None) s) said ran_done))
 
   -- what follows the resource itself, and what follows what is below it
@@ -66,13 +66,13 @@ module _ (locks : Locks) (h : FindHeaders) (w : Writer) (p : PathText) (m : DavM
     more ← tell_below (is_infinite h.depth) (room_at p) w p (m.dir && tells_members h.depth) one.1
     both one more
 
-  pub itself_stopped : {T : Type 0} (opened taken : T → ElementTree → T) (to : T) (old : PropWriter T) {s t : StoreState} → true ≡ tells_itself h.depth → old ≡ started opened w to
+  pub itself_stopped : {T : Type 0} (opened taken : T → ElementTree → T) (to : T) (old : ResponseWriter T) {s t : StoreState} → true ≡ tells_itself h.depth → old ≡ started opened w to
       → Stopped locks (properties_of old.writer p m old.quota) s t → Stopped locks (response_at h w p m) s t
   itself_stopped {T} opened taken to old {s} {t} said fresh stop =
-      let here : Stopped locks (properties_of w p m None) s t = subst (λ (o : PropWriter T). Stopped locks (properties_of o.writer p m o.quota) s t) fresh stop in
+      let here : Stopped locks (properties_of w p m None) s t = subst (λ (o : ResponseWriter T). Stopped locks (properties_of o.writer p m o.quota) s t) fresh stop in
       cut_in and_below (subst (λ b. Stopped locks (tell_itself b w p m) s t) said (cut_in one_response here refl)) refl
 
-  pub below_cut : {T : Type 0} (opened taken : T → ElementTree → T) (to : T) (deep wanted : Bool) (mid : PropWriter T) {s u t : StoreState} → deep ≡ is_infinite h.depth → wanted ≡ (m.dir && tells_members h.depth)
+  pub below_cut : {T : Type 0} (opened taken : T → ElementTree → T) (to : T) (deep wanted : Bool) (mid : ResponseWriter T) {s u t : StoreState} → deep ≡ is_infinite h.depth → wanted ≡ (m.dir && tells_members h.depth)
       → Told taken locks as_is (λ known. itself) (started opened w to) mid s u → Stopped locks (tell_below deep (room_at p) mid.writer p wanted mid.quota) u t
       → Stopped locks (response_at h w p m) s t
   below_cut {T} opened taken to deep wanted mid {s} {u} {t} how where_to one stop =
@@ -81,7 +81,7 @@ module _ (locks : Locks) (h : FindHeaders) (w : Writer) (p : PathText) (m : DavM
       subst (λ b. Stopped locks (tell_below (is_infinite h.depth) (room_at p) w p b mid.quota) u t) where_to (subst (λ d. Stopped locks (tell_below d (room_at p) w p wanted mid.quota) u t) how here) in
       cut_bind and_below one.1 (cut_in (both (one.0, mid.quota)) there refl)
 
-  pub both_told : {T : Type 0} (opened taken : T → ElementTree → T) (to : T) (deep wanted : Bool) (mid new : PropWriter T) {s u t : StoreState} → deep ≡ is_infinite h.depth → wanted ≡ (m.dir && tells_members h.depth)
+  pub both_told : {T : Type 0} (opened taken : T → ElementTree → T) (to : T) (deep wanted : Bool) (mid new : ResponseWriter T) {s u t : StoreState} → deep ≡ is_infinite h.depth → wanted ≡ (m.dir && tells_members h.depth)
       → Told taken locks as_is (λ known. itself) (started opened w to) mid s u → Told taken locks as_is (tell_below deep (room_at p) mid.writer p wanted) mid new u t
       → Told taken locks as_is (λ known. response_at h w p m) (started opened w to) new s t
   both_told {T} opened taken to deep wanted mid new {s} {u} {t} how where_to one two =
@@ -117,10 +117,10 @@ module _ (locks : Locks) (h : FindHeaders) (w : Writer) (p : PathText) (m : DavM
     pub finds_stopped : {s t : StoreState} → Stopped locks (response_at h w p m) s t → Follows as_is finds s locks (Err dav.Memory) t locks
     finds_stopped stop = cut_finds (cut_in replies stop refl)
 
-    pub finds_short : {T : Type 0} (opened taken : T → ElementTree → T) (to : T) (new : PropWriter T) {s t : StoreState} → Told taken locks as_is (λ known. response_at h w p m) (started opened w to) new s t → Follows as_is finds s locks (Err dav.Memory) t locks
+    pub finds_short : {T : Type 0} (opened taken : T → ElementTree → T) (to : T) (new : ResponseWriter T) {s t : StoreState} → Told taken locks as_is (λ known. response_at h w p m) (started opened w to) new s t → Follows as_is finds s locks (Err dav.Memory) t locks
     finds_short {T} opened taken to new told = cut_finds (cut_bind replies told.1 cut_first)
 
-    pub finds_all : {T : Type 0} (opened taken : T → ElementTree → T) (to : T) (new : PropWriter T) (r : Reply) {s t : StoreState} → Told taken locks as_is (λ known. response_at h w p m) (started opened w to) new s t
+    pub finds_all : {T : Type 0} (opened taken : T → ElementTree → T) (to : T) (new : ResponseWriter T) (r : Reply) {s t : StoreState} → Told taken locks as_is (λ known. response_at h w p m) (started opened w to) new s t
         → r ≡ found_reply location reply.Nothing → FollowsHandingOn opened taken to locks finds s (Ok (r, Some new.finished)) t
     finds_all {T} opened taken to new r {s} {t} told is =
         let whole : Reply = propfind_reply location w told.0 in (
@@ -133,7 +133,7 @@ module _ (locks : Locks) (h : FindHeaders) (w : Writer) (p : PathText) (m : DavM
             ap (λ (x : Reply). x.status) is,
             ap (λ (x : Reply). record x { body = reply.Tree (told_by w told.0) }) (sym is),
             ap (λ (x : Reply). x.body) is,
-            ap (λ (n : PropWriter T). n.finished) told.2,
+            ap (λ (n : ResponseWriter T). n.finished) told.2,
           ),
         )
 

@@ -18,11 +18,6 @@ module _ {T : Type 0} (taken : T → ElementTree → T) where
   taken_append to [] ys = refl
   taken_append to (x ∷ xs) ys = taken_append (taken to x) xs ys
 
-  -- the turn of a loop that hands each response on
-  pub taken_turn : (to old new : T) (done : List ElementTree) (response : ElementTree) → old ≡ taken_all taken to done → new ≡ taken old response
-      → new ≡ taken_all taken to (done ++ response ∷ [])
-  taken_turn to old new done response so_far one = one ∙ ap (λ t. taken t response) so_far ∙ sym (taken_append to done (response ∷ []))
-
 -- a tree that grows by one child after another
 grown_element : (name : List ℕ) (prefix namespace : Option (List ℕ)) (attributes : List (List ℕ × List ℕ)) (ts rs : List ElementTree)
     → taken_all grown_tree (Some (element name prefix namespace attributes (trees ts))) rs ≡ Some (element name prefix namespace attributes (trees (ts ++ rs)))

@@ -12,7 +12,7 @@ use Rattle.dav_engine.specs.Method.{MethodPlan, ◌>>=◌, gives}
 use Rattle.dav_engine.specs.Plan.{Locks, ran_done, ran_ask}
 use Rattle.dav_engine.specs.Propfind.{Responses, tell_below, tell_members}
 use Rattle.dav_engine.specs.Properties.{Writer, QuotaKnown, WithQuota, properties_of}
-use Rattle.dav_engine.specs.PropWriter.{PropWriter, Tells, alone, hands_on}
+use Rattle.dav_engine.specs.ResponseWriter.{ResponseWriter, Tells, alone, hands_on}
 use Rattle.dav_engine.proofs.CutPlans.{cut_first, cut_ask, cut_bind, cut_in}
 use Rattle.dav_engine.proofs.Following.{ran_bind}
 use Rattle.dav_engine.proofs.PartLemmas.{Gave, Stopped, end_cut}
@@ -28,40 +28,40 @@ stopped_for {locks = locks} plan {old = old} {new} same stop = subst (λ w. Stop
 
 module _ {T : Type 0} (taken : T → ElementTree → T) where
   -- what tells properties, after it told more
-  abbrev pub with_more : PropWriter T → QuotaKnown → List ElementTree → PropWriter T
+  abbrev pub with_more : ResponseWriter T → QuotaKnown → List ElementTree → ResponseWriter T
   with_more old known more = hands_on taken (record old { quota = known }) more
 
-  pub more_and_more : (old mid new : PropWriter T) (xs ys : List ElementTree) → mid ≡ with_more old mid.quota xs → new ≡ with_more mid new.quota ys → new ≡ with_more old new.quota (xs ++ ys)
+  pub more_and_more : (old mid new : ResponseWriter T) (xs ys : List ElementTree) → mid ≡ with_more old mid.quota xs → new ≡ with_more mid new.quota ys → new ≡ with_more old new.quota (xs ++ ys)
   more_and_more old mid new xs ys one two =
-      two ∙ ap (λ (o : PropWriter T). with_more o new.quota ys) one ∙ ap set (sym (taken_append taken old.finished xs ys)) where
-        set : T → PropWriter T
+      two ∙ ap (λ (o : ResponseWriter T). with_more o new.quota ys) one ∙ ap set (sym (taken_append taken old.finished xs ys)) where
+        set : T → ResponseWriter T
         set t = record old { quota = new.quota; finished = t }
 
   -- this was told
-  abbrev pub Told : {A : Type 0} → Locks → (A → List ElementTree) → (QuotaKnown → MethodPlan (WithQuota A)) → PropWriter T → PropWriter T → StoreState → StoreState → Type 0
+  abbrev pub Told : {A : Type 0} → Locks → (A → List ElementTree) → (QuotaKnown → MethodPlan (WithQuota A)) → ResponseWriter T → ResponseWriter T → StoreState → StoreState → Type 0
   Told {A} locks responses part old new s t = (told : A) × Gave locks (part old.quota) s (told, new.quota) t × (new ≡ with_more old new.quota (responses told))
 
   -- what is returned is what a last call returns, which carries out a part
   pub tells_by : {A B X E : Type 0} {locks : Locks} (responses : A → List ElementTree) (others : B → List ElementTree) (part : QuotaKnown → MethodPlan (WithQuota A)) (piece : QuotaKnown → MethodPlan (WithQuota B))
-      (old mid : PropWriter T) {after view : X → PropWriter T} {s u t : StoreState} (r : Result X E) → Tells locks (hands_on taken) others piece mid view u r t
+      (old mid : ResponseWriter T) {after view : X → ResponseWriter T} {s u t : StoreState} (r : Result X E) → Tells locks (hands_on taken) others piece mid view u r t
       → ((x : X) → Told locks others piece mid (view x) u t → Told locks responses part old (after x) s t) → (Stopped locks (piece mid.quota) u t → Stopped locks (part old.quota) s t)
       → Tells locks (hands_on taken) responses part old after s r t
   tells_by responses others part piece old mid (Ok x) one whole short = whole x one
   tells_by responses others part piece old mid (Err e) one whole short = short one
 
   -- it tells properties as before
-  pub same_writer : (old new : PropWriter T) (known : QuotaKnown) (more : List ElementTree) → new ≡ with_more old known more → new.writer ≡ old.writer
-  same_writer old new known more after = ap (λ (w : PropWriter T). w.writer) after
+  pub same_writer : (old new : ResponseWriter T) (known : QuotaKnown) (more : List ElementTree) → new ≡ with_more old known more → new.writer ≡ old.writer
+  same_writer old new known more after = ap (λ (w : ResponseWriter T). w.writer) after
 
   module _ (locks : Locks) where
     -- nothing is told
-    pub nothing_told : (part : QuotaKnown → MethodPlan Responses) (old : PropWriter T) {s t : StoreState} → Gave locks (part old.quota) s ([], old.quota) t → Told locks as_is part old old s t
+    pub nothing_told : (part : QuotaKnown → MethodPlan Responses) (old : ResponseWriter T) {s t : StoreState} → Gave locks (part old.quota) s ([], old.quota) t → Told locks as_is part old old s t
     nothing_told part old run = ([], run, refl)
 
     module _ (deep : Bool) (p : PathText) where
       -- ---- below a path
 
-      pub not_wanted : (old : PropWriter T) {s : StoreState} → Told locks as_is (tell_below deep (room_at p) old.writer p false) old old s s
+      pub not_wanted : (old : ResponseWriter T) {s : StoreState} → Told locks as_is (tell_below deep (room_at p) old.writer p false) old old s s
       not_wanted old = nothing_told (tell_below deep (room_at p) old.writer p false) old ran_done
 
       module _ (w : Writer) where
@@ -74,11 +74,11 @@ module _ {T : Type 0} (taken : T → ElementTree → T) where
         folder_stopped known {entries} {old} {new = new} small one stop =
             subst (λ k. Stopped locks (tell_below deep k w p true known) old new) (sym (room_step p small)) (cut_ask (Ok entries) one stop)
 
-      pub folder_refused : (old : PropWriter T) {e : FsError} {s t : StoreState} → length p.bytes < 2 ^ 64 → Asks (ReadDir (names p)) s (Err e) t
+      pub folder_refused : (old : ResponseWriter T) {e : FsError} {s t : StoreState} → length p.bytes < 2 ^ 64 → Asks (ReadDir (names p)) s (Err e) t
           → Told locks as_is (tell_below deep (room_at p) old.writer p true) old old s t
       folder_refused old small one = nothing_told (tell_below deep (room_at p) old.writer p true) old (by_room old.writer old.quota (room_at p) ([], old.quota) (room_step p small) (ran_ask one ran_done))
 
-      pub folder_told : (old new : PropWriter T) {entries : List (List ℕ × Bool)} {s u t : StoreState} → length p.bytes < 2 ^ 64 → Asks (ReadDir (names p)) s (Ok entries) u
+      pub folder_told : (old new : ResponseWriter T) {entries : List (List ℕ × Bool)} {s u t : StoreState} → length p.bytes < 2 ^ 64 → Asks (ReadDir (names p)) s (Ok entries) u
           → Told locks as_is (λ known. tell_members (told_below deep p old.writer) old.writer p known entries) old new u t
           → Told locks as_is (tell_below deep (room_at p) old.writer p true) old new s t
       folder_told old new small one rest =
@@ -87,10 +87,10 @@ module _ {T : Type 0} (taken : T → ElementTree → T) where
       -- ---- the members of a folder
 
       -- the rest of the members is told of
-      abbrev pub Rest : List (List ℕ × Bool) → PropWriter T → StoreState → List (List ℕ × Bool) → PropWriter T → StoreState → Type 0
+      abbrev pub Rest : List (List ℕ × Bool) → ResponseWriter T → StoreState → List (List ℕ × Bool) → ResponseWriter T → StoreState → Type 0
       Rest all first begin left old s =
           (old.writer ≡ first.writer)
-          × ((new : PropWriter T) (t : StoreState) → Told locks as_is (λ known. tell_members (told_below deep p first.writer) first.writer p known left) old new s t
+          × ((new : ResponseWriter T) (t : StoreState) → Told locks as_is (λ known. tell_members (told_below deep p first.writer) first.writer p known left) old new s t
           → Told locks as_is (λ known. tell_members (told_below deep p first.writer) first.writer p known all) first new begin t)
           × ((t : StoreState) → Stopped locks (tell_members (told_below deep p first.writer) first.writer p old.quota left) s t
           → Stopped locks (tell_members (told_below deep p first.writer) first.writer p first.quota all) begin t)
@@ -104,7 +104,7 @@ module _ {T : Type 0} (taken : T → ElementTree → T) where
         more ← tell_members (told_below deep p w) w p one.1 es
         others one more
 
-      turn_told : (w : Writer) (entry : List ℕ × Bool) (es : List (List ℕ × Bool)) (old mid new : PropWriter T) {s u t : StoreState}
+      turn_told : (w : Writer) (entry : List ℕ × Bool) (es : List (List ℕ × Bool)) (old mid new : ResponseWriter T) {s u t : StoreState}
           → Told locks as_is (told_entry deep p w entry.0) old mid s u → Told locks as_is (λ known. tell_members (told_below deep p w) w p known es) mid new u t
           → Told locks as_is (λ known. tell_members (told_below deep p w) w p known (entry ∷ es)) old new s t
       turn_told w entry es old mid new one rest = (
@@ -113,10 +113,10 @@ module _ {T : Type 0} (taken : T → ElementTree → T) where
         more_and_more old mid new one.0 rest.0 one.2 rest.2,
       )
 
-      by_writer : (v w : Writer) (name : List ℕ) (old new : PropWriter T) {s t : StoreState} → v ≡ w → Told locks as_is (told_entry deep p v name) old new s t → Told locks as_is (told_entry deep p w name) old new s t
+      by_writer : (v w : Writer) (name : List ℕ) (old new : ResponseWriter T) {s t : StoreState} → v ≡ w → Told locks as_is (told_entry deep p v name) old new s t → Told locks as_is (told_entry deep p w name) old new s t
       by_writer v w name old new {s} {t} same one = subst (λ (o : Writer). Told locks as_is (told_entry deep p o name) old new s t) same one
 
-      pub rest_told : (all es left : List (List ℕ × Bool)) (entry : List ℕ × Bool) (first old mid : PropWriter T) {begin s u : StoreState}
+      pub rest_told : (all es left : List (List ℕ × Bool)) (entry : List ℕ × Bool) (first old mid : ResponseWriter T) {begin s u : StoreState}
           → left ≡ entry ∷ es → Told locks as_is (told_entry deep p old.writer entry.0) old mid s u
           → Rest all first begin left old s → Rest all first begin es mid u
       rest_told all es left entry first old mid {begin} {s} at one rest =
@@ -128,14 +128,14 @@ module _ {T : Type 0} (taken : T → ElementTree → T) where
             (λ t stop. here.2 t (cut_bind (follow first.writer es) turned.1 (cut_in (others (turned.0, mid.quota)) stop refl))),
           )
 
-      pub entry_stopped : (all es left : List (List ℕ × Bool)) (entry : List ℕ × Bool) (first old : PropWriter T) {begin s t : StoreState}
+      pub entry_stopped : (all es left : List (List ℕ × Bool)) (entry : List ℕ × Bool) (first old : ResponseWriter T) {begin s t : StoreState}
           → left ≡ entry ∷ es → Stopped locks (told_entry deep p old.writer entry.0 old.quota) s t
           → Rest all first begin left old s → Stopped locks (tell_members (told_below deep p first.writer) first.writer p first.quota all) begin t
       entry_stopped all es left entry first old {begin} {s} {t} at stop rest =
           let here : Rest all first begin (entry ∷ es) old s = subst (λ l. Rest all first begin l old s) at rest in
           here.2 t (cut_in (follow first.writer es) (subst (λ (o : Writer). Stopped locks (told_entry deep p o entry.0 old.quota) s t) here.0 stop) refl)
 
-      pub all_told : (all left : List (List ℕ × Bool)) (first old : PropWriter T) {begin s : StoreState} → left ≡ [] → Rest all first begin left old s
+      pub all_told : (all left : List (List ℕ × Bool)) (first old : ResponseWriter T) {begin s : StoreState} → left ≡ [] → Rest all first begin left old s
           → Told locks as_is (λ known. tell_members (told_below deep p first.writer) first.writer p known all) first old begin s
       all_told all left first old {begin} {s} none rest =
           let here : Rest all first begin [] old s = subst (λ l. Rest all first begin l old s) none rest in
@@ -144,7 +144,7 @@ module _ {T : Type 0} (taken : T → ElementTree → T) where
       -- ---- one member
 
       module _ (name : List ℕ) where
-        pub entry_refused : (old : PropWriter T) {e : FsError} {s t : StoreState} → Asks (EntryMetadata (names p ++ name ∷ [])) s (Err e) t
+        pub entry_refused : (old : ResponseWriter T) {e : FsError} {s t : StoreState} → Asks (EntryMetadata (names p ++ name ∷ [])) s (Err e) t
             → Told locks as_is (told_entry deep p old.writer name) old old s t
         entry_refused old one = nothing_told (told_entry deep p old.writer name) old (ran_ask one ran_done)
 
@@ -181,7 +181,7 @@ module _ {T : Type 0} (taken : T → ElementTree → T) where
             (subst (λ b. Stopped locks (tell_below deep (room_at p - 1) w child b known) s t) both
             (subst (λ k. Stopped locks (tell_below deep k w child wanted known) s t) is stop))
 
-        pub member_told : (old mid new : PropWriter T) (child top : PathText) (wanted : Bool) (m : DavMetaData) {s u v t : StoreState} → child ≡ child_of p name m.dir → top ≡ child_of p name m.dir → room_at top ≡ room_at p - 1 → wanted ≡ (m.dir && deep)
+        pub member_told : (old mid new : ResponseWriter T) (child top : PathText) (wanted : Bool) (m : DavMetaData) {s u v t : StoreState} → child ≡ child_of p name m.dir → top ≡ child_of p name m.dir → room_at top ≡ room_at p - 1 → wanted ≡ (m.dir && deep)
             → Asks (EntryMetadata (names p ++ name ∷ [])) s (Ok m) u → Told locks alone (properties_of old.writer child m) old mid u v
             → Told locks as_is (tell_below deep (room_at top) mid.writer top wanted) mid new v t → Told locks as_is (told_entry deep p old.writer name) old new s t
         member_told old mid new child top wanted m {u = u} {v} {t} path here room both one two three =
@@ -194,7 +194,7 @@ module _ {T : Type 0} (taken : T → ElementTree → T) where
               more_and_more old mid new (two.0 ∷ []) three.0 two.2 three.2,
             )
 
-        pub below_stopped : (old mid : PropWriter T) (child top : PathText) (wanted : Bool) (m : DavMetaData) {s u v t : StoreState} → child ≡ child_of p name m.dir → top ≡ child_of p name m.dir → room_at top ≡ room_at p - 1 → wanted ≡ (m.dir && deep)
+        pub below_stopped : (old mid : ResponseWriter T) (child top : PathText) (wanted : Bool) (m : DavMetaData) {s u v t : StoreState} → child ≡ child_of p name m.dir → top ≡ child_of p name m.dir → room_at top ≡ room_at p - 1 → wanted ≡ (m.dir && deep)
             → Asks (EntryMetadata (names p ++ name ∷ [])) s (Ok m) u → Told locks alone (properties_of old.writer child m) old mid u v
             → Stopped locks (tell_below deep (room_at top) mid.writer top wanted mid.quota) v t → Stopped locks (told_entry deep p old.writer name old.quota) s t
         below_stopped old mid child top wanted m {u = u} {v} {t} path here room both one two stop =

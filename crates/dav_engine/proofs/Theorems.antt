@@ -30,7 +30,6 @@ pub use Rattle.dav_engine.proofs.LockSparing.{lock_spares}
 pub use Rattle.dav_engine.proofs.LockWorlds.{lock_grants, lock_refreshes, refused_lock_leaves_all, unrefused_lock_leaves_all}
 pub use Rattle.dav_engine.proofs.LockTokenLemmas.{last_is, one_lock_token, token_said}
 pub use Rattle.dav_engine.proofs.ListingsTold.{listings_are_whole}
-pub use Rattle.dav_engine.proofs.ModelLemmas.{serves_from}
 pub use Rattle.dav_engine.proofs.NumberLemmas.{spare_numbers_suffice}
 pub use Rattle.dav_engine.proofs.OnePlanLemmas.{one_conditions, one_put_plan, one_mkcol_plan, one_delete_plan, one_unlock_plan, one_lock_plan, one_place, one_copymove_plan, one_propfind_plan, one_proppatch_plan}
 pub use Rattle.dav_engine.proofs.OptionsLemmas.{options_only_reads, options_is_proper, options_goes_along}

@@ -1,5 +1,4 @@
 pub mod OnHandler
-pub mod BackendView
 pub mod ChangeCode
 pub mod ChangeView
 pub mod Caller
@@ -37,6 +36,7 @@ pub mod PlanLaws
 pub mod Properties
 pub mod PropertyView
 pub mod PropWriter
+pub mod ResponseWriter
 pub mod Taking
 pub mod WriterCode
 pub mod Propfind
@@ -56,6 +56,7 @@ pub mod LockLaws
 pub mod WorldLaws
 pub mod StateCode
 pub mod CallerView
+pub mod Asker
 pub mod Inside
 pub mod Guard
 pub mod StoredLaws

@@ -1,10 +1,14 @@
 -- What contracts see of a request while it is answered.
-use Rattle.std.specs.Prelude.{◌≡◌, ℕ, Result}
+use Rattle.std.specs.Prelude.{◌≡◌, ℕ, List, Result}
+use Rattle.std.specs.Option.{option_map}
+use Rattle.dav_core.specs.Asking.{StoreState}
+use Rattle.dav_core.specs.Locks.{Lock}
 use Rattle.dav_core.specs.declared.errors.DavError.{DavError}
 use Rattle.dav_engine.specs.declared.davinner.DavInner.{DavInner}
 use Rattle.dav_engine.specs.declared.request.Body.{Body}
 use Rattle.dav_engine.specs.declared.request.DavRequest.{DavRequest}
 use Rattle.dav_engine.specs.Caller.{Caller}
+use Rattle.dav_engine.specs.Asker.{caller_at}
 use Rattle.dav_engine.specs.CopyMove.{IsCopyMove}
 use Rattle.dav_engine.specs.Delete.{IsDelete}
 use Rattle.dav_engine.specs.Follows.{Follows, Serves}
@@ -12,39 +16,52 @@ use Rattle.dav_engine.specs.Lock.{IsLock}
 use Rattle.dav_engine.specs.Method.{MethodPlan}
 use Rattle.dav_engine.specs.Mkcol.{IsMkcol}
 use Rattle.dav_engine.specs.Options.{options}
+use Rattle.dav_engine.specs.Plan.{ServerState}
 use Rattle.dav_engine.specs.Propfind.{IsPropfind}
 use Rattle.dav_engine.specs.Proppatch.{IsProppatch}
 use Rattle.dav_engine.specs.Put.{IsPut}
 use Rattle.dav_engine.specs.Reply.{Reply}
 use Rattle.dav_engine.specs.Unlock.{IsUnlock}
 
--- The request still borrows the same state of a server, in which the list of locks is as before, and the store may have
--- changed; its allowed methods and its caller are as before.
-pub record SameLocksBorrowed {F A B L : Type 0} (old new : DavInner F A B L) : Type 0 where
-  pub backend : new.backend.ghost_name ≡ old.backend.ghost_name
-  pub allow : new.allow ≡ old.allow
-  pub caller : new.caller ≡ old.caller
-  pub locks : new.backend.now.state.locks ≡ old.backend.now.state.locks
+-- The state of a server that the request borrows, by the states of its store and of its locks.
+abbrev pub state_in : {F L A B : Type 0} → (F → StoreState) → (L → List Lock) → DavInner F L A B → ServerState
+state_in state list inner = record { store = state inner.fs.now; locks = option_map list inner.ls.now }
 
--- The request still borrows the same state of a server, in which the store and the list of locks may have changed; its allowed
--- methods and its caller are as before.
-pub record SameStateBorrowed {F A B L : Type 0} (old new : DavInner F A B L) : Type 0 where
-  pub backend : new.backend.ghost_name ≡ old.backend.ghost_name
-  pub allow : new.allow ≡ old.allow
-  pub caller : new.caller ≡ old.caller
+-- Who makes the request, and when.
+abbrev pub caller_in : {F L A B : Type 0} → DavInner F L A B → Caller
+caller_in inner = caller_at inner.moment inner.asker.now
 
--- What is stored in the state that the request borrows is as before.
-abbrev pub KeepsWorld : {F A B L : Type 0} → DavInner F A B L → DavInner F A B L → Type 0
-KeepsWorld old new = new.backend.now.state.store.world ≡ old.backend.now.state.store.world
+-- The request still borrows the same store and the same locks, of which the list is as before, and the store may have
+-- changed; its allowed methods, its moment and who makes it are as before.
+pub record SameLocksBorrowed {F L A B : Type 0} (list : L → List Lock) (old new : DavInner F L A B) : Type 0 where
+  pub fs : new.fs.ghost_name ≡ old.fs.ghost_name
+  pub ls : new.ls.ghost_name ≡ old.ls.ghost_name
+  pub allow : new.allow ≡ old.allow
+  pub moment : new.moment ≡ old.moment
+  pub asker : new.asker ≡ old.asker
+  pub locks : option_map list new.ls.now ≡ option_map list old.ls.now
+
+-- The request still borrows the same store and the same locks, which both may have changed; its allowed methods, its moment
+-- and who makes it are as before.
+pub record SameStateBorrowed {F L A B : Type 0} (old new : DavInner F L A B) : Type 0 where
+  pub fs : new.fs.ghost_name ≡ old.fs.ghost_name
+  pub ls : new.ls.ghost_name ≡ old.ls.ghost_name
+  pub allow : new.allow ≡ old.allow
+  pub moment : new.moment ≡ old.moment
+  pub asker : new.asker ≡ old.asker
+
+-- What is stored in the store that the request borrows is as before.
+abbrev pub KeepsWorld : {F L A B : Type 0} → (F → StoreState) → DavInner F L A B → DavInner F L A B → Type 0
+KeepsWorld state old new = (state new.fs.now).world ≡ (state old.fs.now).world
 
 -- the request was answered by a plan of this kind for its caller, on the state that it borrows
-abbrev pub ServesFrom : {F A B L : Type 0} → (Caller → MethodPlan Reply → Type 0) → DavInner F A B L → Result Reply DavError → DavInner F A B L → Type 0
-ServesFrom kind old result new = Serves (kind old.caller.now) old.backend.now.state result new.backend.now.state
+abbrev pub ServesFrom : {F L A B : Type 0} → (F → StoreState) → (L → List Lock) → (Caller → MethodPlan Reply → Type 0) → DavInner F L A B → Result Reply DavError → DavInner F L A B → Type 0
+ServesFrom state list kind old result new = Serves (kind (caller_in old)) (state_in state list old) result (state_in state list new)
 
 -- A part of the plan of a request was carried out for its caller, on the state that it borrows.
-abbrev pub FollowsOn : {F A B L X Y : Type 0} → (Y → X) → (Caller → MethodPlan X) → DavInner F A B L → Result Y DavError → DavInner F A B L → Type 0
-FollowsOn view plan old result new =
-    Follows view (plan old.caller.now) old.backend.now.state.store old.backend.now.state.locks result new.backend.now.state.store new.backend.now.state.locks
+abbrev pub FollowsOn : {F L A B X Y : Type 0} → (F → StoreState) → (L → List Lock) → (Y → X) → (Caller → MethodPlan X) → DavInner F L A B → Result Y DavError → DavInner F L A B → Type 0
+FollowsOn state list view plan old result new =
+    Follows view (plan (caller_in old)) (state old.fs.now) (option_map list old.ls.now) result (state new.fs.now) (option_map list new.ls.now)
 
 -- the plans of a MKCOL, by who makes it
 abbrev pub MkcolOf : DavRequest → Caller → MethodPlan Reply → Type 0

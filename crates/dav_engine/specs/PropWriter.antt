@@ -1,5 +1,6 @@
--- The writer of a multistatus with properties, and what each of its steps adds.
-use Rattle.std.specs.Prelude.{◌≡◌, ◌++◌, List, [], ◌∷◌, codes, None, Result, Ok, Err}
+-- The writer of a multistatus with properties, and what each of its calls adds.
+use Rattle.std.specs.Prelude.{◌≡◌, ◌++◌, List, [], ◌∷◌, codes, Option, None, Some, Result, Ok, Err}
+use Rattle.std.specs.Option.{unwrap_or}
 use Rattle.http_header.specs.FieldValue.{FieldValue, plain_value}
 use Rattle.http_header.specs.HeaderMap.{Entries, insert}
 use Rattle.dav_core.specs.Asking.{StoreState, Asks}
@@ -7,29 +8,41 @@ use Rattle.dav_core.specs.Element.{ElementTree}
 use Rattle.dav_engine.specs.Method.{MethodPlan}
 use Rattle.dav_engine.specs.Multistatus.{xml_type}
 use Rattle.dav_engine.specs.Plan.{Locks, Ran, Cut}
-use Rattle.dav_engine.specs.Properties.{Writer, QuotaKnown, WithQuota, told_by}
+use Rattle.dav_engine.specs.Properties.{Writer, QuotaKnown, WithQuota}
 use Rattle.dav_engine.specs.Reply.{Reply, headers_in}
-use Rattle.dav_engine.specs.Taking.{taken_all}
 
--- The state of a writer of properties: how they are reported, what is known of the quota, what takes the responses, after it took those
--- that were handed on, and the responses that weren't handed on yet.
-pub record PropWriter (T : Type 0) : Type 0 where
+-- The state of a writer of properties: how they are reported, what is known of the quota, what its sender has, where it has one, and
+-- the responses that weren't moved there yet.
+pub record PropWriter : Type 0 where
   pub writer : Writer
   pub quota : QuotaKnown
-  pub finished : T
+  pub sent : Option (List ElementTree)
   pub waiting : List ElementTree
 
--- A writer that has no response yet: the multistatus was handed on without any.
-abbrev pub started : {T : Type 0} → (opened : T → ElementTree → T) → Writer → T → PropWriter T
-started opened w to = record { writer = w; quota = None; finished = opened to (told_by w []); waiting = [] }
+-- A writer that has no response yet, and no sender.
+abbrev pub unwritten : Writer → PropWriter
+unwritten w = record { writer = w; quota = None; sent = None; waiting = [] }
 
 -- More responses wait.
-abbrev pub waits : {T : Type 0} → PropWriter T → List ElementTree → PropWriter T
+abbrev pub waits : PropWriter → List ElementTree → PropWriter
 waits w more = record w { waiting = w.waiting ++ more }
 
--- More responses were handed on.
-abbrev pub hands_on : {T : Type 0} → (taken : T → ElementTree → T) → PropWriter T → List ElementTree → PropWriter T
-hands_on taken w more = record w { finished = taken_all taken w.finished more }
+-- It sends to another sender, which has these responses already, and behind them what was sent before.
+abbrev pub sends_to : PropWriter → List ElementTree → PropWriter
+sends_to w has = record w { sent = Some (has ++ unwrap_or w.sent []) }
+
+-- The responses that waited were moved behind those that the sender had, and none waits. Where there is no sender they wait on.
+abbrev pub sent_by : Option (List ElementTree) → PropWriter → PropWriter
+sent_by None w = w
+sent_by (Some has) w = record w { sent = Some (has ++ w.waiting); waiting = [] }
+
+-- What waited was moved to the sender of the writer, if it has one.
+abbrev pub flushed : PropWriter → PropWriter
+flushed w = sent_by w.sent w
+
+-- All responses that were written, in order: what the sender has, and then what waits.
+abbrev pub all_written : PropWriter → List ElementTree
+all_written w = unwrap_or w.sent [] ++ w.waiting
 
 -- The reply gets the status 207 and the Content-Type of XML (RFC 4918, sections 8.2 and 11.1).
 pub record BeginsReply (old new : Reply) : Type 0 where
@@ -37,15 +50,10 @@ pub record BeginsReply (old new : Reply) : Type 0 where
   pub before : old.headers ≡ headers_in entries
   pub after : new ≡ record { status = 207; headers = headers_in (insert entries (codes "content-type") (plain_value xml_type.1)); body = old.body }
 
--- A part of a plan, which begins with what is known of the quota, was carried out with this list of locks, which stays: its
--- responses were added so. Or, where an error is returned, memory ran out in the part.
-abbrev pub Tells : {A X E T : Type 0} → Locks → (add : PropWriter T → List ElementTree → PropWriter T) → (A → List ElementTree) → (QuotaKnown → MethodPlan (WithQuota A))
-    → PropWriter T → (X → PropWriter T) → StoreState → Result X E → StoreState → Type 0
-Tells {A} locks add responses part old after s (Ok x) t =
-    (told : A) × Ran Asks (part old.quota) s locks (Ok (told, (after x).quota)) t locks
-    × (after x ≡ add (record old { quota = (after x).quota }) (responses told))
-Tells locks add responses part old after s (Err _) t = Cut Asks locks (part old.quota) s locks t locks
-
--- A single response, as a list.
-abbrev pub alone : ElementTree → List ElementTree
-alone response = response ∷ []
+-- A part of a plan that makes one response, which begins with what is known of the quota, was carried out with this list of locks,
+-- which stays: the response waits. Or, where an error is returned, memory ran out in the part.
+abbrev pub Writes : {X E : Type 0} → Locks → (QuotaKnown → MethodPlan (WithQuota ElementTree)) → PropWriter → PropWriter → StoreState → Result X E → StoreState → Type 0
+Writes locks part old new s (Ok _) t =
+    (response : ElementTree) × Ran Asks (part old.quota) s locks (Ok (response, new.quota)) t locks
+    × (new ≡ waits (record old { quota = new.quota }) (response ∷ []))
+Writes locks part old new s (Err _) t = Cut Asks locks (part old.quota) s locks t locks

@@ -1,4 +1,7 @@
 //! One request while it is answered.
+ghost use Rattle.std.specs.Prelude.{◌≡◌};
+ghost use Rattle.dav_engine.specs.Asker.{caller_at};
+
 use dav_core::fs::DavFileSystem;
 use dav_core::ls::DavLockSystem;
 use dav_core::method::DavMethodSet;
@@ -25,38 +28,47 @@ impl<'c> Model for Caller<'c> {
     ghost view = { caller_of };
 }
 
-/// The state of a server: its store, and its locks where there is a lock system.
+/// Who a request is answered for: who makes it, and the token of the lock that it may be granted.
 #[derive(Drop)]
-pub struct Backend<F: DavFileSystem, L: DavLockSystem> {
-    /// The store.
-    pub fs: F,
-    /// The locks, where there is a lock system.
-    pub ls: Option<L>,
+pub struct Asker<'c> {
+    /// Who makes the request, where that is known.
+    pub principal: Option<&'c str>,
+    /// The token for a lock that the request creates.
+    pub token: Option<&'c str>,
 }
 
-impl<F: DavFileSystem, L: DavLockSystem> Model for Backend<F, L> {
-    ghost use Rattle.std.specs.Option.{option_map};
-    ghost use Rattle.dav_engine.specs.BackendView.{BackendView, coded_backend};
-    ghost use Rattle.dav_core.specs.contracts.errors.FsError as fs_error;
+impl<'c> Model for Asker<'c> {
+    ghost use Rattle.dav_engine.specs.Asker as said;
 
-    ghost Value = { BackendView F L };
+    ghost Value = { said.Asker };
 
-    ghost coded = { coded_backend F.code L.code fs_error.the_row.coded };
-
-    ghost view = { λ b. record {
-      fs = b.fs;
-      ls = b.ls;
-      state = record { store = F.state b.fs; locks = option_map L.locks b.ls };
-    } };
+    ghost view = { said.asker_of };
 }
 
-/// One request while it is answered, on the borrowed state of a server. The methods of a server are its functions.
+impl<'c> Asker<'c> {
+    // Who makes a request, and that it is made at this moment.
+    pub(crate) fn at(&self, moment: u64) -> Caller<'c>
+        ensures { result ≡ caller_at moment self.now }
+    {
+        Caller {
+            principal: self.principal,
+            moment,
+            token: self.token,
+        }
+    }
+}
+
+/// One request while it is answered, on the borrowed store and locks of a server. The methods of a server are its functions.
 #[derive(Drop)]
 pub struct DavInner<'a, 'b, 'c, F: DavFileSystem, L: DavLockSystem> {
-    /// The store and the locks.
-    pub backend: &'a mut Backend<F, L>,
+    /// The store.
+    pub fs: &'a mut F,
+    /// The locks, where there is a lock system.
+    pub ls: &'a mut Option<L>,
     /// The methods that are allowed.
     pub allow: DavMethodSet,
-    /// Who makes the request, and when.
-    pub caller: &'b Caller<'c>,
+    /// When the request is made, in seconds since 1970; at most 253402300799, which is the end of the year 9999.
+    pub moment: u64,
+    /// Who makes the request, and the token for a lock that it creates.
+    pub asker: &'b Asker<'c>,
 }

@@ -17,7 +17,7 @@ pub mod properties;
 pub mod reply;
 pub mod request;
 
-pub use davinner::{Backend, Caller, DavInner};
+pub use davinner::{Asker, Caller, DavInner};
 pub use methods::copy_move::destination_in;
 pub use methods::propfind::gathered;
 pub use properties::takes::{Gathered, Takes};

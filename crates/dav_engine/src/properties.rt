@@ -6,6 +6,7 @@ pub(crate) mod live;
 pub mod locks;
 pub mod prop_writer;
 pub(crate) mod response;
+pub(crate) mod response_writer;
 pub(crate) mod stored;
 pub mod takes;
 pub(crate) mod writer;

@@ -71,14 +71,14 @@ abbrev server : Settings → StoreState → Locks → Server
 server settings store locks = record { settings = settings; state = record { store = store; locks = locks } }
 
 -- the server in memory when a step begins, by its fields
-pub loaded_server : (was now : RefusingStore Store) (list : List (Option FsError)) (settings : Settings) (locks : Locks) {held : ServerState} {old : Server} {x : Exchange} {t : Turn}
-    → now ≡ record was { coming = list } → ◌≡◌ {A = ServerState} (record { store = with_refusals was.coming (state_of was.inner); locks = locks }) held
-    → ◌≡◌ {A = Server} (record { settings = settings; state = held }) old → ◌≡◌ {A = Turn} (record { asked = x; refusals = Some list }) t
+pub loaded_server : (was now : RefusingStore Store) (list : List (Option FsError)) (settings : Settings) (locks : Locks) {old : Server} {x : Exchange} {t : Turn}
+    → now ≡ record was { coming = list }
+    → ◌≡◌ {A = Server} (record { settings = settings; state = record { store = with_refusals was.coming (state_of was.inner); locks = locks } }) old
+    → ◌≡◌ {A = Turn} (record { asked = x; refusals = Some list }) t
     → ◌≡◌ {A = Server} (record { settings = settings; state = record { store = with_refusals now.coming (state_of now.inner); locks = locks } }) (at_turn t old)
-loaded_server was now list settings locks {held} {old} {x} {t} is holds serves asks =
+loaded_server was now list settings locks {old} {x} {t} is serves asks =
     ap (λ (n : RefusingStore Store). server settings (with_refusals n.coming (state_of n.inner)) locks) is
     ∙ ap (λ s. server settings s locks) (loaded_store was list)
-    ∙ ap (λ (h : ServerState). at_turn (record { asked = x; refusals = Some list }) (record { settings = settings; state = h })) holds
     ∙ ap (at_turn (record { asked = x; refusals = Some list })) serves
     ∙ ap (λ (u : Turn). at_turn u old) asks
 

@@ -1,9 +1,14 @@
 -- What the handler does is a step of the machine.
-use Rattle.std.proofs.Common.{◌≡◌, ℕ, List, OnErr, Result, Ok, Err, refl, sym, subst}
+use Rattle.std.proofs.Common.{◌≡◌, ℕ, List, Option, OnErr, Result, Ok, Err, refl, sym, ap, subst, ◌∙◌}
+use Rattle.std.specs.Option.{option_copied, option_map}
+use denote.Ref.{Bor}
 use Rattle.dav_core.specs.declared.errors.DavError.{DavError}
 use Rattle.dav_core.specs.declared.errors.DavError.TheVariants as dav
 use Rattle.dav_core.specs.Asking.{StoreState, Asks}
-use Rattle.dav_engine.specs.Follows.{followed, gave_up, Serves, served, not_begun}
+use Rattle.dav_core.specs.Locks.{Lock}
+use Rattle.dav_engine.specs.Asker.{Asker, caller_at}
+use Rattle.dav_engine.specs.ConditionView.{locks_in}
+use Rattle.dav_engine.specs.Follows.{as_is, followed, gave_up, FollowsOneOf, Serves, served, not_begun}
 use Rattle.dav_engine.specs.Method.{MethodPlan, fails}
 use Rattle.dav_engine.specs.Plan.{Plan, Locks, ServerState, Ran, ran_done, ran_ask, ran_look, ran_keep, Cut, refused_done}
 use Rattle.dav_engine.proofs.Theorems.{cut_refused, cut_ask, cut_look, cut_keep, follows_done}
@@ -101,3 +106,12 @@ serves_set K {new = new} {r} same done = subst (λ h. Serves (K h.server.setting
 pub serves_asked : (K : Exchange → MethodPlan Reply → Type 0) {one other : Exchange} {old new : ServerState} {r : Result Reply DavError}
     → one ≡ other → Serves (K one) old r new → Serves (K other) old r new
 serves_asked K {old = old} {new} {r} same done = subst (λ x. Serves (K x) old r new) same done
+
+-- what was served with borrowed locks was served with the locks that were lent
+pub serves_lent : {L : Type 0} {K : MethodPlan Reply → Type 0} (locks : L → List Lock) (lent : Option (Bor L)) {held : Option L} {old new : StoreState} {r : Result Reply DavError}
+    → option_copied lent ≡ held → FollowsOneOf as_is K old (locks_in locks lent) r new (locks_in locks lent) → FollowsOneOf as_is K old (option_map locks held) r new (option_map locks held)
+serves_lent {L} {K} locks lent {old = old} {new} {r} same done = subst (λ (l : Option L). FollowsOneOf as_is K old (option_map locks l) r new (option_map locks l)) same done
+
+-- who makes a request at the moment of an equal one
+pub asked_at : {one other : Exchange} {who : Asker} → one ≡ other → caller_at other.moment who ≡ caller other → caller_at one.moment who ≡ caller other
+asked_at {who = who} same is = ap (λ (x : Exchange). caller_at x.moment who) same ∙ is

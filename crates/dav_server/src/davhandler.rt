@@ -5,6 +5,7 @@ ghost use Rattle.dav_core.specs.Method.{Has};
 ghost use Rattle.dav_core.specs.Path.{star};
 ghost use Rattle.std.specs.Option.{option_map, option_copied};
 ghost use Rattle.dav_core.specs.declared.errors.DavError.TheVariants.{Memory};
+ghost use Rattle.dav_engine.specs.Asker.{caller_at};
 ghost use Rattle.dav_engine.specs.Follows.{Serves};
 ghost use Rattle.dav_engine.specs.Taking.{ServesHandingOn};
 ghost use Rattle.dav_core.specs.World.{last_moment};
@@ -50,7 +51,7 @@ use dav_core::errors::{DavError, DavResult, NoMemory, ParseError};
 use dav_core::fs::DavFileSystem;
 use dav_core::ls::DavLockSystem;
 use dav_core::method::{DavMethod, DavMethodSet};
-use dav_engine::{Backend, Body, Caller, DavInner, DavRequest, Gathered, Reply, Takes, gathered};
+use dav_engine::{Asker, Body, DavInner, DavRequest, Gathered, Reply, Takes, gathered};
 use http::StatusCode;
 use std::alloc::Global;
 use std::marker::Model;
@@ -83,11 +84,13 @@ impl From<NoMemory> for HandlerError {
 pub struct DavHandler<F: DavFileSystem, L: DavLockSystem> {
     prefix: String,
     allowed: DavMethodSet,
-    pub(crate) backend: Backend<F, L>,
+    pub(crate) fs: F,
+    pub(crate) ls: Option<L>,
 }
 
 impl<F: DavFileSystem, L: DavLockSystem> Model for DavHandler<F, L> {
     ghost use Rattle.std.specs.Prelude.{string_bytes};
+    ghost use Rattle.std.specs.Option.{option_map};
     ghost use Rattle.dav_core.specs.contracts.errors.FsError as fs_error;
     ghost use Rattle.dav_server.specs.Server.{HandlerView};
     ghost use Rattle.dav_server.specs.ServerCode.{coded_handler};
@@ -97,11 +100,11 @@ impl<F: DavFileSystem, L: DavLockSystem> Model for DavHandler<F, L> {
     ghost coded = { coded_handler F.code L.code fs_error.the_row.coded };
 
     ghost view = { λ h. record {
-      fs = h.backend.fs;
-      ls = h.backend.ls;
+      fs = h.fs;
+      ls = h.ls;
       server = record {
         settings = record { prefix = string_bytes h.prefix; allowed = h.allowed };
-        state = h.backend.state;
+        state = record { store = F.state h.fs; locks = option_map L.locks h.ls };
       };
     } };
 }
@@ -174,7 +177,8 @@ impl<F: DavFileSystem + Drop, L: DavLockSystem + Drop> DavHandler<F, L> {
         Ok(DavHandler {
             prefix,
             allowed,
-            backend: Backend { fs, ls },
+            fs,
+            ls,
         })
     }
 
@@ -188,7 +192,8 @@ impl<F: DavFileSystem + Drop, L: DavLockSystem + Drop> DavHandler<F, L> {
           locks = option_map L.locks ls;
         } }
     {
-        self.backend = Backend { fs, ls };
+        self.fs = fs;
+        self.ls = ls;
     }
 }
 
@@ -202,25 +207,25 @@ fn token_of(token: &Option<GrantToken>) -> Option<&str>
     }
 }
 
-// Who makes a request, when, and the token for a lock that it creates.
-fn caller_of<'c>(exchange: &'c Exchange<'_>) -> Caller<'c>
-    ensures caller { result ≡ caller exchange.now }
-    ensures moment { result.moment ≤ last_moment }
+// Who makes a request, and the token for a lock that it creates.
+fn asker_of<'c>(exchange: &'c Exchange<'_>) -> Asker<'c>
+    ensures { caller_at exchange.now.moment result ≡ caller exchange.now }
 {
-    Caller {
+    Asker {
         principal: exchange.principal,
-        moment: exchange.moment.seconds,
         token: token_of(&exchange.token),
     }
 }
 
-// A request of this caller while it is answered by a handler.
+// A request that is made at this moment, while it is answered by a handler.
 macro_rules! inner {
-    ($handler:expr, $caller:expr) => {
+    ($handler:expr, $moment:expr, $asker:expr) => {
         DavInner {
-            backend: &mut $handler.backend,
+            fs: &mut $handler.fs,
+            ls: &mut $handler.ls,
             allow: $handler.allowed,
-            caller: $caller,
+            moment: $moment,
+            asker: $asker,
         }
     };
 }
@@ -251,21 +256,25 @@ fn serve<F: DavFileSystem, L: DavLockSystem>(
         → request.now.method ≡ DavMethod.Lock → is_absent body.now ≡ false
         → SameContent handler.old.server.state handler.new.server.state }
 {
-    let caller = &caller_of(exchange);
+    let asker = &asker_of(exchange);
     let now = exchange.moment.seconds;
     match request.method {
-        DavMethod::Get => handle_gethead(&mut handler.backend, alloc, request, now),
-        DavMethod::Head => handle_gethead(&mut handler.backend, alloc, request, now),
-        DavMethod::Put => inner!(handler, caller).handle_put(alloc, request, body),
-        DavMethod::Patch => inner!(handler, caller).handle_put(alloc, request, body),
-        DavMethod::MkCol => inner!(handler, caller).handle_mkcol(alloc, request, body),
-        DavMethod::Delete => inner!(handler, caller).handle_delete(alloc, request, body),
-        DavMethod::Copy => inner!(handler, caller).handle_copymove(alloc, request, body),
-        DavMethod::Move => inner!(handler, caller).handle_copymove(alloc, request, body),
-        DavMethod::Options => inner!(handler, caller).handle_options(alloc, request, body),
-        DavMethod::PropPatch => inner!(handler, caller).handle_proppatch(alloc, request, body),
-        DavMethod::Lock => inner!(handler, caller).handle_lock(alloc, request, body),
-        DavMethod::Unlock => inner!(handler, caller).handle_unlock(alloc, request, body),
+        DavMethod::Get => {
+            handle_gethead(&mut handler.fs, handler.ls.as_ref(), alloc, request, now)
+        }
+        DavMethod::Head => {
+            handle_gethead(&mut handler.fs, handler.ls.as_ref(), alloc, request, now)
+        }
+        DavMethod::Put => inner!(handler, now, asker).handle_put(alloc, request, body),
+        DavMethod::Patch => inner!(handler, now, asker).handle_put(alloc, request, body),
+        DavMethod::MkCol => inner!(handler, now, asker).handle_mkcol(alloc, request, body),
+        DavMethod::Delete => inner!(handler, now, asker).handle_delete(alloc, request, body),
+        DavMethod::Copy => inner!(handler, now, asker).handle_copymove(alloc, request, body),
+        DavMethod::Move => inner!(handler, now, asker).handle_copymove(alloc, request, body),
+        DavMethod::Options => inner!(handler, now, asker).handle_options(alloc, request, body),
+        DavMethod::PropPatch => inner!(handler, now, asker).handle_proppatch(alloc, request, body),
+        DavMethod::Lock => inner!(handler, now, asker).handle_lock(alloc, request, body),
+        DavMethod::Unlock => inner!(handler, now, asker).handle_unlock(alloc, request, body),
         DavMethod::PropFind
         | DavMethod::Report
         | DavMethod::MkCalendar
@@ -294,8 +303,9 @@ fn serve_to<F: DavFileSystem, L: DavLockSystem, T: Takes + Drop>(
         → SameContent handler.old.server.state handler.new.server.state }
 {
     if is_propfind(request.method) {
-        let caller = &caller_of(exchange);
-        return inner!(handler, caller).handle_propfind_to(alloc, request, body, to);
+        let asker = &asker_of(exchange);
+        let now = exchange.moment.seconds;
+        return inner!(handler, now, asker).handle_propfind_to(alloc, request, body, to);
     }
     match serve(handler, alloc, request, body, exchange) {
         Ok(reply) => Ok((reply, None)),
@@ -371,8 +381,7 @@ impl<F: DavFileSystem, L: DavLockSystem> DavHandler<F, L> {
         ensures fs { result.now ≡ self.now.fs }
         ensures state { F.state result.now ≡ self.now.server.state.store }
     {
-        let backend = &self.backend;
-        &backend.fs
+        &self.fs
     }
 
     /// The locks, where there is a lock system. Allocates nothing.
@@ -380,8 +389,7 @@ impl<F: DavFileSystem, L: DavLockSystem> DavHandler<F, L> {
         ensures ls { option_copied result ≡ self.now.ls }
         ensures state { locks_in L.locks result ≡ self.now.server.state.locks }
     {
-        let backend = &self.backend;
-        backend.ls.as_ref()
+        self.ls.as_ref()
     }
 
     /// Answers a request: the reply, the store and the locks are those of one step of the machine, from the bytes of the

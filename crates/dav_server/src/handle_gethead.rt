@@ -4,7 +4,7 @@ ghost use Rattle.dav_core.specs.Asking.{Asks, Open, StoreState, seen};
 ghost use Rattle.dav_core.specs.Path.{names};
 ghost use Rattle.dav_core.specs.World.{last_moment};
 ghost use Rattle.dav_engine.specs.ConditionView.{locks_in};
-ghost use Rattle.dav_engine.specs.Follows.{as_is, FollowsOnStore, Serves, FollowsWithLocks};
+ghost use Rattle.dav_engine.specs.Follows.{as_is, FollowsOneOf, FollowsOnStore, FollowsWithLocks};
 ghost use Rattle.dav_engine.specs.Method.{MethodPlan};
 ghost use Rattle.dav_engine.specs.Reply.{headers_in};
 ghost use Rattle.dav_engine.specs.Reply as said;
@@ -18,7 +18,7 @@ use dav_core::ls::DavLockSystem;
 use dav_core::method::DavMethod;
 use dav_engine::conditions::Conditions;
 use dav_engine::reply::{set_header, set_length, set_tag, set_validators};
-use dav_engine::{Backend, DavRequest, Reply, ReplyBody};
+use dav_engine::{DavRequest, Reply, ReplyBody};
 use dav_headers::names;
 use http::StatusCode;
 use http_header::{HeaderMap, HeaderValue};
@@ -178,21 +178,16 @@ fn get<F: DavFileSystem, L: DavLockSystem>(
 /// 412 where If or If-Match doesn't hold, and 304 with the tag alone where If-None-Match doesn't (section 13.2); each other
 /// refusal of the store is its own status.
 pub fn handle_gethead<F: DavFileSystem, L: DavLockSystem>(
-    backend: &mut Backend<F, L>,
+    fs: &mut F,
+    ls: Option<&L>,
     alloc: Global,
     request: &DavRequest,
     now: u64,
 ) -> DavResult<Reply>
     requires { now ≤ last_moment }
-    ensures { Serves (spec.GetOf request.now now) backend.old.state result backend.new.state }
+    ensures { FollowsOneOf as_is (spec.GetOf request.now now) (F.state fs.old)
+        (locks_in L.locks ls.entry) result (F.state fs.new) (locks_in L.locks ls.entry) }
 {
     let conditions = Conditions::decode(alloc, request, &request.path)?;
-    get(
-        &mut backend.fs,
-        backend.ls.as_ref(),
-        alloc,
-        request,
-        &conditions,
-        now,
-    )
+    get(fs, ls, alloc, request, &conditions, now)
 }

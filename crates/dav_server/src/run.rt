@@ -137,8 +137,7 @@ fn answer_turn(
     ensures loaded { is_some step.entry.refusals ≡ true }
 {
     let Step { exchange, refusals } = step;
-    let backend = &mut handler.backend;
-    backend.fs.load(refusals);
+    handler.fs.load(refusals);
     answer_next(handler, alloc, &exchange, replies)
 }
 

@@ -479,14 +479,14 @@ fn move_items<F: DavFileSystem>(
     alloc: Global,
     source: &DavPath,
     destination: &DavPath,
-    caller: &Caller<'_>,
+    now: u64,
     errors: &mut MultiError,
 ) -> DavResult<()>
-    requires moment { caller.now.moment ≤ last_moment }
-    ensures { Copies (walk.renaming caller.now.moment source.now destination.now)
+    requires moment { now ≤ last_moment }
+    ensures { Copies (walk.renaming now source.now destination.now)
         (F.state fs.old) errors.old errors.new result (F.state fs.new) }
 {
-    let last = renaming(fs, alloc, source, destination, caller.moment, errors)?;
+    let last = renaming(fs, alloc, source, destination, now, errors)?;
     result_of(last)
 }
 
@@ -521,21 +521,23 @@ impl<'a, 'b, 'c, F: DavFileSystem, L: DavLockSystem> DavInner<'a, 'b, 'c, F, L> 
         request: &DavRequest,
         _body: &Body,
     ) -> DavResult<Reply>
-        requires moment { self.old.caller.now.moment ≤ last_moment }
+        requires moment { self.old.moment ≤ last_moment }
         requires path { request.now.path.bytes ≢ star }
         ensures lent { SameStateBorrowed self.old self.new }
-        ensures serves { ServesFrom (CopyMoveOf request.now) self.old result self.new }
+        ensures serves { ServesFrom F.state L.locks (CopyMoveOf request.now)
+            self.old result self.new }
     {
         let headers = CopyHeaders::decode(alloc, request)?;
-        let backend = &mut *self.backend;
+        let caller = self.asker.at(self.moment);
+        let path = &request.path;
         copy_or_move(
-            &mut backend.fs,
-            &mut backend.ls,
+            self.fs,
+            self.ls,
             alloc,
             request.method,
             &headers,
-            &request.path,
-            self.caller,
+            path,
+            &caller,
         )
     }
 
@@ -556,24 +558,21 @@ impl<'a, 'b, 'c, F: DavFileSystem, L: DavLockSystem> DavInner<'a, 'b, 'c, F, L> 
         depth: Depth,
         errors: &mut MultiError,
     ) -> DavResult<()>
-        requires moment { self.old.caller.now.moment ≤ last_moment }
+        requires moment { self.old.moment ≤ last_moment }
         requires path { source.now.bytes ≢ star }
-        ensures lent { SameLocksBorrowed self.old self.new }
-        ensures copies { Copies (walk.copying (goes_below depth) self.old.caller.now.moment
+        ensures lent { SameLocksBorrowed L.locks self.old self.new }
+        ensures copies { Copies (walk.copying (goes_below depth) self.old.moment
             topdest.now source.now dest.now)
-            self.old.backend.now.state.store errors.old errors.new result
-            self.new.backend.now.state.store }
+            (F.state self.old.fs.now) errors.old errors.new result (F.state self.new.fs.now) }
     {
-        let backend = &mut *self.backend;
-        let caller = self.caller;
         let job = CopyJob {
             top: topdest,
             source,
             destination: dest,
             reach: reach_at(depth),
-            moment: caller.moment,
+            moment: self.moment,
         };
-        copy_items(&mut backend.fs, alloc, &job, errors)
+        copy_items(self.fs, alloc, &job, errors)
     }
 
     /// Moves what is at a path to another path, with everything below it (RFC 4918, section 9.9). The locks stay. Where the
@@ -586,14 +585,11 @@ impl<'a, 'b, 'c, F: DavFileSystem, L: DavLockSystem> DavInner<'a, 'b, 'c, F, L> 
         dest: &DavPath,
         errors: &mut MultiError,
     ) -> DavResult<()>
-        requires moment { self.old.caller.now.moment ≤ last_moment }
-        ensures lent { SameLocksBorrowed self.old self.new }
-        ensures copies { Copies (walk.renaming self.old.caller.now.moment source.now dest.now)
-            self.old.backend.now.state.store errors.old errors.new result
-            self.new.backend.now.state.store }
+        requires moment { self.old.moment ≤ last_moment }
+        ensures lent { SameLocksBorrowed L.locks self.old self.new }
+        ensures copies { Copies (walk.renaming self.old.moment source.now dest.now)
+            (F.state self.old.fs.now) errors.old errors.new result (F.state self.new.fs.now) }
     {
-        let backend = &mut *self.backend;
-        let fs = &mut backend.fs;
-        move_items(fs, alloc, source, dest, self.caller, errors)
+        move_items(self.fs, alloc, source, dest, self.moment, errors)
     }
 }

@@ -80,15 +80,15 @@ fn delete_items<F: DavFileSystem>(
     depth: Depth,
     meta: &DavMetaData,
     path: &DavPath,
-    caller: &Caller<'_>,
+    now: u64,
 ) -> DavResult<()>
-    requires moment { caller.now.moment ≤ last_moment }
+    requires moment { now ≤ last_moment }
     requires path { path.now.bytes ≢ star }
-    ensures { Removes (removal (goes_below depth) caller.now.moment path.now meta.now.dir)
+    ensures { Removes (removal (goes_below depth) now path.now meta.now.dir)
         (F.state fs.old) errors.old errors.new result (F.state fs.new) }
 {
     let reach = reach_at(depth);
-    if removal(fs, alloc, reach, path, meta.dir, caller.moment, errors)? {
+    if removal(fs, alloc, reach, path, meta.dir, now, errors)? {
         return Ok(());
     }
     Err(errors.last_error())
@@ -167,23 +167,17 @@ impl<'a, 'b, 'c, F: DavFileSystem, L: DavLockSystem> DavInner<'a, 'b, 'c, F, L> 
         request: &DavRequest,
         _body: &Body,
     ) -> DavResult<Reply>
-        requires moment { self.old.caller.now.moment ≤ last_moment }
+        requires moment { self.old.moment ≤ last_moment }
         requires path { request.now.path.bytes ≢ star }
         ensures lent { SameStateBorrowed self.old self.new }
-        ensures serves { ServesFrom (DeleteOf request.now) self.old result self.new }
+        ensures serves { ServesFrom F.state L.locks (DeleteOf request.now)
+            self.old result self.new }
     {
         let conditions = Conditions::decode(alloc, request, &request.path)?;
         let depth = depth_in(alloc, &request.headers)?;
-        let backend = &mut *self.backend;
-        delete(
-            &mut backend.fs,
-            &mut backend.ls,
-            alloc,
-            &conditions,
-            depth,
-            &request.path,
-            self.caller,
-        )
+        let caller = self.asker.at(self.moment);
+        let path = &request.path;
+        delete(self.fs, self.ls, alloc, &conditions, depth, path, &caller)
     }
 
     /// Removes what is at a path, of which this is the metadata: with everything below it, or at Depth 0 alone (RFC 4918,
@@ -200,23 +194,13 @@ impl<'a, 'b, 'c, F: DavFileSystem, L: DavLockSystem> DavInner<'a, 'b, 'c, F, L> 
         meta: &DavMetaData,
         path: &DavPath,
     ) -> DavResult<()>
-        requires moment { self.old.caller.now.moment ≤ last_moment }
+        requires moment { self.old.moment ≤ last_moment }
         requires path { path.now.bytes ≢ star }
-        ensures lent { SameLocksBorrowed self.old self.new }
+        ensures lent { SameLocksBorrowed L.locks self.old self.new }
         ensures removes { Removes
-            (removal (goes_below depth) self.old.caller.now.moment path.now meta.now.dir)
-            self.old.backend.now.state.store errors.old errors.new result
-            self.new.backend.now.state.store }
+            (removal (goes_below depth) self.old.moment path.now meta.now.dir)
+            (F.state self.old.fs.now) errors.old errors.new result (F.state self.new.fs.now) }
     {
-        let backend = &mut *self.backend;
-        delete_items(
-            &mut backend.fs,
-            alloc,
-            errors,
-            depth,
-            meta,
-            path,
-            self.caller,
-        )
+        delete_items(self.fs, alloc, errors, depth, meta, path, self.moment)
     }
 }

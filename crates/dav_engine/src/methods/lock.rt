@@ -363,18 +363,17 @@ impl<'a, 'b, 'c, F: DavFileSystem, L: DavLockSystem> DavInner<'a, 'b, 'c, F, L> 
         headers: &LockHeaders,
         path: &DavPath,
     ) -> DavResult<String>
-        ensures lent { SameLocksBorrowed self.old self.new }
-        ensures plan { FollowsOn string_bytes
+        ensures lent { SameLocksBorrowed L.locks self.old self.new }
+        ensures plan { FollowsOn F.state L.locks string_bytes
             (λ who. spec.token_to_refresh headers.now (names path.now) who)
             self.old result self.new }
     {
-        let caller = self.caller;
-        let backend = &mut *self.backend;
-        let fs = &mut backend.fs;
-        let ls = backend.ls.as_ref();
+        let asker = self.asker;
+        let fs = &mut *self.fs;
+        let ls = self.ls.as_ref();
         let (_, tokens) = headers.conditions.dav_if_match(alloc, fs, ls)?;
         let token = one_token(&tokens)?;
-        if !is_open(ls, path, caller.principal, Reach::Alone, &tokens) {
+        if !is_open(ls, path, asker.principal, Reach::Alone, &tokens) {
             return Err(DavError::Status(StatusCode::PRECONDITION_FAILED));
         }
         Ok(token.clone()?)
@@ -389,18 +388,16 @@ impl<'a, 'b, 'c, F: DavFileSystem, L: DavLockSystem> DavInner<'a, 'b, 'c, F, L> 
         path: &DavPath,
         found: Option<&DavMetaData>,
     ) -> DavResult<Reply>
-        requires { self.old.caller.now.moment ≤ last_moment }
+        requires { self.old.moment ≤ last_moment }
         ensures lent { SameStateBorrowed self.old self.new }
-        ensures plan { FollowsOn as_is (λ who. spec.lock_again headers.now path.now
+        ensures plan { FollowsOn F.state L.locks as_is (λ who. spec.lock_again headers.now path.now
             (location_found (option_copied found.entry) request.now.path) who)
             self.old result self.new }
-        ensures world { KeepsWorld self.old self.new }
+        ensures world { KeepsWorld F.state self.old self.new }
     {
         let token = self.token_to_refresh(alloc, headers, path)?;
         let timeout = headers.refreshed_for();
-        let caller = self.caller;
-        let backend = &mut *self.backend;
-        let lock = refresh(&mut backend.ls, alloc, path, &token, timeout, caller.moment);
+        let lock = refresh(self.ls, alloc, path, &token, timeout, self.moment);
         refreshed(alloc, &request.path, found, lock)
     }
 
@@ -413,18 +410,17 @@ impl<'a, 'b, 'c, F: DavFileSystem, L: DavLockSystem> DavInner<'a, 'b, 'c, F, L> 
         body: &Body,
         found: Option<&DavMetaData>,
     ) -> DavResult<DavLock>
-        requires moment { self.old.caller.now.moment ≤ last_moment }
-        ensures lent { SameLocksBorrowed self.old self.new }
-        ensures plan { FollowsOn as_is (λ who. spec.asked_lock headers.now path.now body.now who
-            (option_copied found.entry)) self.old result self.new }
-        ensures lasts { IfOk result (LastsFrom self.old.caller.now.moment) }
+        requires moment { self.old.moment ≤ last_moment }
+        ensures lent { SameLocksBorrowed L.locks self.old self.new }
+        ensures plan { FollowsOn F.state L.locks as_is (λ who. spec.asked_lock headers.now
+            path.now body.now who (option_copied found.entry)) self.old result self.new }
+        ensures lasts { IfOk result (LastsFrom self.old.moment) }
         ensures path { IfOk result (λ l. l.path ≡ path.now) }
     {
         let reach = whole_depth(headers.depth)?;
-        let caller = self.caller;
-        let backend = &mut *self.backend;
-        let fs = &mut backend.fs;
-        let ls = backend.ls.as_ref();
+        let caller = self.asker.at(self.moment);
+        let fs = &mut *self.fs;
+        let ls = self.ls.as_ref();
         let verdict = headers
             .conditions
             .if_match(alloc, DavMethod::Lock, found, fs, ls)?;
@@ -442,10 +438,10 @@ impl<'a, 'b, 'c, F: DavFileSystem, L: DavLockSystem> DavInner<'a, 'b, 'c, F, L> 
             alloc,
             &headers.conditions,
             path,
-            caller,
+            &caller,
             Members::when_made(found),
         )?;
-        Ok(lock_of(alloc, headers, path, caller, reach, info, token)?)
+        Ok(lock_of(alloc, headers, path, &caller, reach, info, token)?)
     }
 
     // Grants a new lock. All memory for the reply is had before, so that no lock is granted whose token the client doesn't learn.
@@ -458,26 +454,25 @@ impl<'a, 'b, 'c, F: DavFileSystem, L: DavLockSystem> DavInner<'a, 'b, 'c, F, L> 
         path: &DavPath,
         found: Option<&DavMetaData>,
     ) -> DavResult<Reply>
-        requires moment { self.old.caller.now.moment ≤ last_moment }
+        requires moment { self.old.moment ≤ last_moment }
         ensures lent { SameStateBorrowed self.old self.new }
-        ensures plan { FollowsOn as_is (λ who. spec.lock_new headers.now path.now
+        ensures plan { FollowsOn F.state L.locks as_is (λ who. spec.lock_new headers.now path.now
             (location_found (option_copied found.entry) request.now.path) body.now who
             (option_copied found.entry)) self.old result self.new }
-        ensures memory { IsErrOf result DavError.Memory → SameLocksBorrowed self.old self.new }
-        ensures world { IsErrOf result DavError.Memory → KeepsWorld self.old self.new }
+        ensures memory { IsErrOf result DavError.Memory
+            → SameLocksBorrowed L.locks self.old self.new }
+        ensures world { IsErrOf result DavError.Memory → KeepsWorld F.state self.old self.new }
     {
         let lock = self.asked_lock(alloc, headers, path, body, found)?;
         let reply = granted_reply(alloc, &request.path, found, &lock)?;
-        let caller = self.caller;
-        let backend = &mut *self.backend;
         let granted = grant_new(
-            &mut backend.fs,
-            &mut backend.ls,
+            self.fs,
+            self.ls,
             alloc,
             &headers.conditions,
             found.is_some(),
             &lock,
-            caller.moment,
+            self.moment,
         );
         given(reply, granted)
     }
@@ -491,13 +486,14 @@ impl<'a, 'b, 'c, F: DavFileSystem, L: DavLockSystem> DavInner<'a, 'b, 'c, F, L> 
         body: &Body,
         found: Option<&DavMetaData>,
     ) -> DavResult<Reply>
-        requires moment { self.old.caller.now.moment ≤ last_moment }
+        requires moment { self.old.moment ≤ last_moment }
         ensures lent { SameStateBorrowed self.old self.new }
-        ensures plan { FollowsOn as_is (λ who. spec.lock_found headers.now request.now.path
-            body.now who (option_copied found.entry)) self.old result self.new }
+        ensures plan { FollowsOn F.state L.locks as_is (λ who. spec.lock_found headers.now
+            request.now.path body.now who (option_copied found.entry))
+            self.old result self.new }
         ensures memory { IsErrOf result DavError.Memory
-            → is_absent body.now ≡ false → SameLocksBorrowed self.old self.new }
-        ensures world { IsErrOf result DavError.Memory → KeepsWorld self.old self.new }
+            → is_absent body.now ≡ false → SameLocksBorrowed L.locks self.old self.new }
+        ensures world { IsErrOf result DavError.Memory → KeepsWorld F.state self.old self.new }
     {
         let path = closed(&request.path, is_folder_found(found))?;
         if is_absent(body) {
@@ -530,19 +526,19 @@ impl<'a, 'b, 'c, F: DavFileSystem, L: DavLockSystem> DavInner<'a, 'b, 'c, F, L> 
         request: &DavRequest,
         body: &Body,
     ) -> DavResult<Reply>
-        requires moment { self.old.caller.now.moment ≤ last_moment }
+        requires moment { self.old.moment ≤ last_moment }
         ensures lent { SameStateBorrowed self.old self.new }
-        ensures serves { ServesFrom (LockOf request.now body.now) self.old result self.new }
+        ensures serves { ServesFrom F.state L.locks (LockOf request.now body.now)
+            self.old result self.new }
         ensures memory { IsErrOf result DavError.Memory
-            → is_absent body.now ≡ false → SameLocksBorrowed self.old self.new }
-        ensures world { IsErrOf result DavError.Memory → KeepsWorld self.old self.new }
+            → is_absent body.now ≡ false → SameLocksBorrowed L.locks self.old self.new }
+        ensures world { IsErrOf result DavError.Memory → KeepsWorld F.state self.old self.new }
     {
         let headers = LockHeaders::decode(alloc, request)?;
-        let backend = &mut *self.backend;
-        if backend.ls.is_none() {
+        if self.ls.is_none() {
             return Err(DavError::Status(StatusCode::METHOD_NOT_ALLOWED));
         }
-        let found = backend.fs.metadata(&request.path).ok();
+        let found = self.fs.metadata(&request.path).ok();
         self.lock_found(alloc, request, &headers, body, found.as_ref())
     }
 }

@@ -112,19 +112,14 @@ impl<'a, 'b, 'c, F: DavFileSystem, L: DavLockSystem> DavInner<'a, 'b, 'c, F, L> 
         request: &DavRequest,
         _body: &Body,
     ) -> DavResult<Reply>
-        requires moment { self.old.caller.now.moment ≤ last_moment }
-        ensures lent { SameLocksBorrowed self.old self.new }
-        ensures serves { ServesFrom (MkcolOf request.now) self.old result self.new }
+        requires moment { self.old.moment ≤ last_moment }
+        ensures lent { SameLocksBorrowed L.locks self.old self.new }
+        ensures serves { ServesFrom F.state L.locks (MkcolOf request.now)
+            self.old result self.new }
     {
         let conditions = Conditions::decode(alloc, request, &request.path)?;
-        let backend = &mut *self.backend;
-        mkcol(
-            &mut backend.fs,
-            backend.ls.as_ref(),
-            alloc,
-            &conditions,
-            &request.path,
-            self.caller,
-        )
+        let caller = self.asker.at(self.moment);
+        let ls = self.ls.as_ref();
+        mkcol(self.fs, ls, alloc, &conditions, &request.path, &caller)
     }
 }

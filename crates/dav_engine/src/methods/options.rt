@@ -248,14 +248,13 @@ impl<'a, 'b, 'c, F: DavFileSystem, L: DavLockSystem> DavInner<'a, 'b, 'c, F, L> 
         request: &DavRequest,
         _body: &Body,
     ) -> DavResult<Reply>
-        ensures lent { SameLocksBorrowed self.old self.new }
-        ensures serves { ServesFrom (OptionsOf self.old.allow request.now)
+        ensures lent { SameLocksBorrowed L.locks self.old self.new }
+        ensures serves { ServesFrom F.state L.locks (OptionsOf self.old.allow request.now)
             self.old result self.new }
     {
         let allow = self.allow;
-        let backend = &mut *self.backend;
-        let found = backend.fs.metadata(&request.path).ok();
-        let locks = backend.ls.is_some();
+        let found = self.fs.metadata(&request.path).ok();
+        let locks = self.ls.is_some();
         Ok(options_reply(alloc, allow, locks, &request.path, found.as_ref())?)
     }
 }

@@ -4,7 +4,7 @@ ghost use Rattle.dav_core.specs.Path.{star};
 ghost use Rattle.dav_core.specs.World.{last_moment};
 ghost use Rattle.http_header.specs.HeaderMap.{insert};
 ghost use Rattle.http_header.specs.FieldValue.{plain_value};
-ghost use Rattle.dav_engine.specs.OnHandler.{SameLocksBorrowed, ServesFrom, PropfindOf};
+ghost use Rattle.dav_engine.specs.OnHandler.{SameLocksBorrowed, ServesFrom, PropfindOf, caller_in, state_in};
 ghost use Rattle.dav_engine.specs.Reply.{Reply};
 ghost use Rattle.dav_engine.specs.ConditionView.{locks_in};
 ghost use Rattle.dav_engine.specs.FindView.{response_at};
@@ -12,7 +12,7 @@ ghost use Rattle.dav_engine.specs.Folder.{closed, location_found};
 ghost use Rattle.dav_engine.specs.Follows.{as_is};
 ghost use Rattle.dav_engine.specs.Multistatus.{dav_element, declares_dav};
 ghost use Rattle.dav_engine.specs.Propfind as spec;
-ghost use Rattle.dav_engine.specs.PropWriter.{hands_on, started, Tells};
+ghost use Rattle.dav_engine.specs.ResponseWriter.{hands_on, started, Tells};
 ghost use Rattle.dav_engine.specs.Taking.{FollowsHandingOn, IsHandedOn, ServesHandingOn, grown_tree, opened_tree};
 ghost use Rattle.dav_engine.specs.declared.reply.ReplyBody.TheVariants.{Nothing, Tree};
 ghost use Rattle.dav_core.specs.Element.{ElementTree};
@@ -27,7 +27,7 @@ use crate::methods::propfind::headers::FindHeaders;
 use crate::methods::propfind::members::tell_below;
 use crate::methods::propfind::query::query_in;
 use crate::properties::live::Resource;
-use crate::properties::prop_writer::PropWriter;
+use crate::properties::response_writer::ResponseWriter;
 use crate::properties::takes::{Gathered, Takes};
 use crate::properties::writer::Writer;
 use crate::reply::tree::{declaring_dav, with_child};
@@ -97,7 +97,7 @@ fn told<F: DavFileSystem, L: DavLockSystem, T: Takes + Drop>(
     writer: Writer,
     found: Resource<'_>,
     to: T,
-) -> Result<PropWriter<T>, NoMemory>
+) -> Result<ResponseWriter<T>, NoMemory>
     requires path { found.path.now.bytes ≢ star }
     requires created { found.meta.now.created ≤ last_moment }
     requires modified { found.meta.now.modified ≤ last_moment }
@@ -105,7 +105,7 @@ fn told<F: DavFileSystem, L: DavLockSystem, T: Takes + Drop>(
         (λ known. response_at headers.now writer found.entry.path.now found.entry.meta.now)
         (started T.opened writer to) as_is (F.state fs.old) result (F.state fs.new) }
 {
-    let mut writer = PropWriter::started(alloc, writer, to)?;
+    let mut writer = ResponseWriter::started(alloc, writer, to)?;
     if headers.tells_itself() {
         writer.tell(alloc, fs, ls, found)?;
     }
@@ -245,8 +245,9 @@ impl<'a, 'b, 'c, F: DavFileSystem, L: DavLockSystem> DavInner<'a, 'b, 'c, F, L> 
         body: &Body,
     ) -> DavResult<Reply>
         requires path { request.now.path.bytes ≢ star }
-        ensures lent { SameLocksBorrowed self.old self.new }
-        ensures serves { ServesFrom (PropfindOf request.now body.now) self.old result self.new }
+        ensures lent { SameLocksBorrowed L.locks self.old self.new }
+        ensures serves { ServesFrom F.state L.locks (PropfindOf request.now body.now)
+            self.old result self.new }
     {
         match self.handle_propfind_to(alloc, request, body, Gathered::new()) {
             Ok((reply, tree)) => Ok(gathered(reply, tree)),
@@ -265,19 +266,19 @@ impl<'a, 'b, 'c, F: DavFileSystem, L: DavLockSystem> DavInner<'a, 'b, 'c, F, L> 
         to: T,
     ) -> DavResult<(Reply, Option<T>)>
         requires path { request.now.path.bytes ≢ star }
-        ensures lent { SameLocksBorrowed self.old self.new }
+        ensures lent { SameLocksBorrowed L.locks self.old self.new }
         ensures serves { ServesHandingOn T.opened T.taken to
-            (PropfindOf request.now body.now self.old.caller.now)
-            self.old.backend.now.state result self.new.backend.now.state }
+            (PropfindOf request.now body.now (caller_in self.old))
+            (state_in F.state L.locks self.old) result (state_in F.state L.locks self.new) }
     {
         let headers = FindHeaders::decode(alloc, &request.headers)?;
+        let caller = self.asker.at(self.moment);
         let search = Search {
             request,
             headers: &headers,
             body,
-            caller: self.caller,
+            caller: &caller,
         };
-        let backend = &mut *self.backend;
-        propfind(&mut backend.fs, backend.ls.as_ref(), alloc, search, to)
+        propfind(self.fs, self.ls.as_ref(), alloc, search, to)
     }
 }

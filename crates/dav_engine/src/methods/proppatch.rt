@@ -195,17 +195,18 @@ impl<'a, 'b, 'c, F: DavFileSystem, L: DavLockSystem> DavInner<'a, 'b, 'c, F, L> 
         request: &DavRequest,
         body: &Body,
     ) -> DavResult<Reply>
-        ensures lent { SameLocksBorrowed self.old self.new }
-        ensures serves { ServesFrom (ProppatchOf request.now body.now) self.old result self.new }
+        ensures lent { SameLocksBorrowed L.locks self.old self.new }
+        ensures serves { ServesFrom F.state L.locks (ProppatchOf request.now body.now)
+            self.old result self.new }
     {
         let conditions = Conditions::decode(alloc, request, &request.path)?;
+        let caller = self.asker.at(self.moment);
         let update = Update {
             conditions: &conditions,
             asked: &request.path,
             body,
-            caller: self.caller,
+            caller: &caller,
         };
-        let backend = &mut *self.backend;
-        proppatch(&mut backend.fs, backend.ls.as_ref(), alloc, update)
+        proppatch(self.fs, self.ls.as_ref(), alloc, update)
     }
 }

@@ -324,9 +324,10 @@ impl<'a, 'b, 'c, F: DavFileSystem, L: DavLockSystem> DavInner<'a, 'b, 'c, F, L> 
         request: &DavRequest,
         body: &Body,
     ) -> DavResult<Reply>
-        requires moment { self.old.caller.now.moment ≤ last_moment }
-        ensures lent { SameLocksBorrowed self.old self.new }
-        ensures serves { ServesFrom (PutOf request.now body.now) self.old result self.new }
+        requires moment { self.old.moment ≤ last_moment }
+        ensures lent { SameLocksBorrowed L.locks self.old self.new }
+        ensures serves { ServesFrom F.state L.locks (PutOf request.now body.now)
+            self.old result self.new }
     {
         let headers = PutHeaders::decode(alloc, request)?;
         let empty = Bytes::new();
@@ -344,10 +345,10 @@ impl<'a, 'b, 'c, F: DavFileSystem, L: DavLockSystem> DavInner<'a, 'b, 'c, F, L> 
         headers: &PutHeaders,
         bytes: &Bytes,
     ) -> DavResult<Reply>
-        requires moment { self.old.caller.now.moment ≤ last_moment }
-        ensures lent { SameLocksBorrowed self.old self.new }
-        ensures plan { FollowsOn as_is (λ who. spec.put request.now.method headers.now
-            (names request.now.path) who bytes.now) self.old result self.new }
+        requires moment { self.old.moment ≤ last_moment }
+        ensures lent { SameLocksBorrowed L.locks self.old self.new }
+        ensures plan { FollowsOn F.state L.locks as_is (λ who. spec.put request.now.method
+            headers.now (names request.now.path) who bytes.now) self.old result self.new }
     {
         let (writing, found) = self.may_put(alloc, request, headers, bytes)?;
         let options = put_opening(headers, writing)?;
@@ -357,9 +358,7 @@ impl<'a, 'b, 'c, F: DavFileSystem, L: DavLockSystem> DavInner<'a, 'b, 'c, F, L> 
             bytes,
             found,
         };
-        let caller = self.caller;
-        let backend = &mut *self.backend;
-        store(&mut backend.fs, alloc, &options, upload, caller.moment)
+        store(self.fs, alloc, &options, upload, self.moment)
     }
 
     // Checks whether bytes may be stored at the path of a request: returns where they go, and whether something was found
@@ -371,14 +370,14 @@ impl<'a, 'b, 'c, F: DavFileSystem, L: DavLockSystem> DavInner<'a, 'b, 'c, F, L> 
         headers: &PutHeaders,
         bytes: &Bytes,
     ) -> DavResult<(Writing, bool)>
-        ensures lent { SameLocksBorrowed self.old self.new }
-        ensures plan { FollowsOn as_is (λ who. spec.put_allowed request.now.method headers.now
-            (names request.now.path) who bytes.now) self.old result self.new }
+        ensures lent { SameLocksBorrowed L.locks self.old self.new }
+        ensures plan { FollowsOn F.state L.locks as_is (λ who. spec.put_allowed
+            request.now.method headers.now (names request.now.path) who bytes.now)
+            self.old result self.new }
     {
-        let caller = self.caller;
-        let backend = &mut *self.backend;
-        let fs = &mut backend.fs;
-        let ls = backend.ls.as_ref();
+        let asker = self.asker;
+        let fs = &mut *self.fs;
+        let ls = self.ls.as_ref();
         let method = request.method;
         let found = fs.metadata(&request.path).ok();
         let writing = writing_of(method, headers, found.as_ref())?;
@@ -392,7 +391,7 @@ impl<'a, 'b, 'c, F: DavFileSystem, L: DavLockSystem> DavInner<'a, 'b, 'c, F, L> 
             Reach::Alone,
             Members::when_made(found.as_ref()),
             &request.path,
-            caller.principal,
+            asker.principal,
             &tokens,
             DavError::StatusClose(StatusCode::LOCKED),
         )?;

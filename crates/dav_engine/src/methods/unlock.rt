@@ -72,24 +72,18 @@ impl<'a, 'b, 'c, F: DavFileSystem, L: DavLockSystem> DavInner<'a, 'b, 'c, F, L> 
         _body: &Body,
     ) -> DavResult<Reply>
         ensures lent { SameStateBorrowed self.old self.new }
-        ensures kept { OnErr result (SameLocksBorrowed self.old self.new) }
-        ensures serves { ServesFrom (UnlockOf request.now) self.old result self.new }
+        ensures kept { OnErr result (SameLocksBorrowed L.locks self.old self.new) }
+        ensures serves { ServesFrom F.state L.locks (UnlockOf request.now)
+            self.old result self.new }
     {
         let said = lock_token(alloc, &request.headers)?;
         let token = token_in(said.as_ref());
-        let backend = &mut *self.backend;
-        if backend.ls.is_none() {
+        if self.ls.is_none() {
             return Err(DavError::Status(StatusCode::METHOD_NOT_ALLOWED));
         }
         let Some(token) = token else {
             return Err(DavError::Status(StatusCode::BAD_REQUEST));
         };
-        end_lock(
-            &mut backend.fs,
-            &mut backend.ls,
-            alloc,
-            &request.path,
-            token,
-        )
+        end_lock(self.fs, self.ls, alloc, &request.path, token)
     }
 }

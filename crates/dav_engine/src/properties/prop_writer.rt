@@ -1,24 +1,20 @@
 //! Properties of resources, as the reply to a request tells them (RFC 4918, sections 9.1, 14 and 15).
-ghost use Rattle.std.specs.Prelude.{◌≡◌, ◌≤◌, ◌++◌, ◌∷◌, [], IfOk, IfErr, IsOkAnd, OnOk, OnErr};
-ghost use Rattle.std.specs.List.{list_any};
+ghost use Rattle.std.specs.Prelude.{◌≡◌, ◌≤◌, ◌∷◌, [], IfOk, IfErr, IsSome, OnOk, OnErr};
 ghost use Rattle.std.specs.Option.{option_copied};
 ghost use Rattle.dav_core.specs.World.{last_moment};
 ghost use Rattle.dav_core.specs.declared.errors.DavError.TheVariants as DavError;
 ghost use Rattle.dav_engine.specs.ConditionView.{locks_in};
-ghost use Rattle.dav_engine.specs.Properties.{properties_of, property_response, is_in, writer, telling_of};
+ghost use Rattle.dav_engine.specs.Properties.{properties_of, property_response, told_by, writer, telling_of};
 ghost use Rattle.dav_engine.specs.PropertyView.{groups_in};
-ghost use Rattle.dav_engine.specs.PropWriter.{alone, hands_on, started, waits, BeginsReply, Tells};
-ghost use Rattle.dav_engine.specs.Taking.{taken_all};
-ghost use Rattle.dav_engine.specs.Declaring.{declared, declares_namespaces, opened};
-ghost use Rattle.dav_engine.specs.Multistatus.{multistatus};
+ghost use Rattle.dav_engine.specs.PropWriter.{all_written, flushed, sends_to, unwritten, waits, BeginsReply, Writes};
 
 use crate::properties::found::response_of;
-use crate::properties::kind::{Telling, is_in};
+use crate::properties::kind::Telling;
 use crate::properties::live::{Quota, Resource};
 use crate::properties::response::property_response;
-use crate::properties::takes::Takes;
+use crate::properties::response_writer::opened;
 use crate::properties::writer::Writer;
-use crate::reply::tree::declaring_dav;
+use crate::reply::multistatus::Sender;
 use crate::reply::{Reply, set_xml_type};
 use crate::request::DavRequest;
 use dav_core::davpath::DavPath;
@@ -30,104 +26,51 @@ use http::StatusCode;
 use std::alloc::Global;
 use std::collections::BTreeMap;
 use std::marker::Model;
-use std::mem;
 
-// Whether one of the properties is of this namespace.
-fn has_in(space: &str, properties: &[Element]) -> bool
-    ensures { result ≡ list_any (is_in space.now) properties.now }
+// The element for all responses, with these.
+fn told_by(alloc: Global, writer: &Writer, responses: Vec<Element>) -> Result<Element, NoMemory>
+    ensures { IfOk result (λ e. e ≡ told_by writer.now responses.items) }
 {
-    properties.iter().any(|property| is_in(space, property))
-}
-
-// Declares a namespace, where a property has it (Namespaces in XML 1.0, section 3).
-fn declare(
-    element: Result<Element, NoMemory>,
-    prefix: &str,
-    space: &str,
-    properties: &[Element],
-) -> Result<Element, NoMemory>
-    ensures { IfOk result (λ e. IsOkAnd element (λ root.
-        e ≡ declared prefix.now space.now properties.now root)) }
-{
-    let mut element = element?;
-    if has_in(space, properties) {
-        element.ns(prefix, space)?;
+    let mut element = opened(alloc, writer.telling, &writer.properties)?;
+    for response in responses {
+        element.push_element(response)?;
     }
     Ok(element)
 }
 
-// Whether the namespaces of properties are declared: not where outcomes are told.
-fn declares_namespaces(telling: Telling) -> bool
-    ensures { result ≡ declares_namespaces telling }
-{
-    !matches!(telling, Telling::Outcomes)
-}
-
-// The element for responses, without any.
-fn multistatus(alloc: Global) -> Result<Element, NoMemory>
-    ensures { IfOk result (λ e. e ≡ multistatus []) }
-{
-    declaring_dav(alloc, "D:multistatus")
-}
-
-// The element for all responses, without any.
-fn opened(alloc: Global, telling: Telling, properties: &[Element]) -> Result<Element, NoMemory>
-    ensures { IfOk result (λ e. e ≡ opened telling properties.now) }
-{
-    let element = multistatus(alloc);
-    if !declares_namespaces(telling) {
-        return element;
-    }
-    let element = declare(element, "A", "http://apache.org/dav/props/", properties);
-    let element = declare(element, "Z", "urn:schemas-microsoft-com:", properties);
-    let element = declare(element, "nc", "http://nextcloud.org/ns", properties);
-    declare(element, "oc", "http://owncloud.org/ns", properties)
-}
-
-// Hands responses on to what takes them.
-fn hand_on<T: Takes>(alloc: Global, to: &mut T, responses: Vec<Element>) -> Result<(), NoMemory>
-    ensures { OnOk result (to.new ≡ taken_all T.taken to.old responses.items) }
-{
-    for response in responses {
-        to.take(alloc, response)?;
-    }
-    Ok(())
-}
-
-/// What tells properties of resources: each has a response, and the multistatus of all responses is handed on in parts.
+/// What tells properties of resources: each has a response, and all responses are the children of one element.
 #[derive(Drop)]
-pub struct PropWriter<T: Takes> {
+pub struct PropWriter {
     // How they are told.
     writer: Writer,
     // What is known of the quota.
     quota: Option<Quota>,
-    // What takes the responses.
-    finished: T,
-    // The responses that weren't handed on yet.
+    // What the responses are moved to, where it was set.
+    tx: Option<Sender<Element>>,
+    // The responses that weren't moved yet.
     waiting: Vec<Element>,
 }
 
-impl<T: Takes> Model for PropWriter<T> {
+impl Model for PropWriter {
+    ghost use Rattle.std.specs.Option.{option_map};
     ghost use Rattle.dav_engine.specs.PropWriter as said;
     ghost use Rattle.dav_engine.specs.WriterCode.{coded_writing};
     ghost use Rattle.dav_engine.specs.contracts.properties.kind.Telling as kind;
 
-    ghost Value = { said.PropWriter T };
+    ghost Value = { said.PropWriter };
 
-    ghost coded = { coded_writing T.code kind.the_row.coded };
+    ghost coded = { coded_writing kind.the_row.coded };
 
     ghost view = { λ w. record {
       writer = w.writer;
       quota = w.quota;
-      finished = w.finished;
+      sent = option_map (λ s. s.items) w.tx;
       waiting = w.waiting.items;
     } };
 }
 
-impl<T: Takes + Drop> PropWriter<T> {
-    /// Begins the reply to a request that tells properties: its status is 207, and it has `content-type`; and hands the multistatus
-    /// on to what takes the responses, without any. It declares the namespaces of the properties that are told, of those that
-    /// the server knows, and none where outcomes are told (RFC 4918, section 14.16). `name` is that of the
+impl PropWriter {
+    /// Begins the reply to a request that tells properties: its status is 207, and it has `content-type`. `name` is that of the
     /// element that asks for them (RFC 4918, sections 14.2, 14.18, 14.19 and 14.20): `prop` for the given properties;
     /// `allprop` for them and then all that every resource has; `propname` for names alone; `propertyupdate` for what became
     /// of changes. Under another name the given ones are followed by those that are told under `propname`.
@@ -140,64 +83,39 @@ impl<T: Takes + Drop> PropWriter<T> {
         name: &str,
         props: Vec<Element>,
         principal: Option<&str>,
-        to: T,
-    ) -> DavResult<PropWriter<T>>
-        ensures writer { IfOk result (λ w. w ≡ started T.opened (writer (telling_of name.now)
-            request.now.headers (option_copied principal.entry) props.items) to) }
+    ) -> DavResult<PropWriter>
+        ensures writer { IfOk result (λ w. w ≡ unwritten (writer (telling_of name.now)
+            request.now.headers (option_copied principal.entry) props.items)) }
         ensures reply { OnOk result (BeginsReply reply.old reply.new) }
         ensures unchanged { OnErr result (reply.new ≡ reply.old) }
         ensures memory { IfErr result (λ e. e ≡ DavError.Memory) }
     {
         let telling = Telling::by_name(name);
         let writer = Writer::new(alloc, telling, &request.headers, principal, props)?;
-        let started = PropWriter::started(alloc, writer, to)?;
         set_xml_type(&mut reply.headers)?;
         reply.status = StatusCode::MULTI_STATUS;
-        Ok(started)
-    }
-
-    // Hands the multistatus on without any response.
-    pub(crate) fn started(alloc: Global, writer: Writer, to: T) -> Result<PropWriter<T>, NoMemory>
-        ensures { IfOk result (λ w. w ≡ started T.opened writer to) }
-    {
-        let mut finished = to;
-        let multistatus = opened(alloc, writer.telling, &writer.properties)?;
-        finished.open(alloc, multistatus)?;
         Ok(PropWriter {
             writer,
             quota: None,
-            finished,
+            tx: None,
             waiting: Vec::new(alloc),
         })
     }
 
-    // What took the responses.
-    pub(crate) fn into_finished(self) -> T
-        ensures { result ≡ self.finished }
+    /// Sends the responses to a sender from now on. What it has already comes first, and then what was sent before, if there was
+    /// another sender. Those that wait do so until `flush`.
+    ///
+    /// `Memory` where memory runs out, never where there was no sender before; all then stays as it was.
+    pub fn set_tx(&mut self, mut tx: Sender<Element>) -> DavResult<()>
+        ensures ok { OnOk result (self.new ≡ sends_to self.old tx.items) }
+        ensures err { OnErr result (self.new ≡ self.old) }
+        ensures first { OnErr result (IsSome self.old.sent) }
+        ensures memory { IfErr result (λ e. e ≡ DavError.Memory) }
     {
-        self.finished
-    }
-}
-
-impl<T: Takes> PropWriter<T> {
-    // Hands the response for a resource on.
-    pub(crate) fn tell<F: DavFileSystem, L: DavLockSystem>(
-        &mut self,
-        alloc: Global,
-        fs: &mut F,
-        ls: Option<&L>,
-        resource: Resource<'_>,
-    ) -> Result<(), NoMemory>
-        requires created { resource.meta.now.created ≤ last_moment }
-        requires modified { resource.meta.now.modified ≤ last_moment }
-        ensures { Tells (locks_in L.locks ls.entry) (hands_on T.taken) alone
-            (properties_of self.old.writer resource.entry.path.now resource.entry.meta.now)
-            self.old (λ _. self.new) (F.state fs.old) result (F.state fs.new) }
-    {
-        let mut known = self.quota;
-        let response = response_of(fs, ls, alloc, &self.writer, resource, &mut known)?;
-        self.finished.take(alloc, response)?;
-        self.quota = known;
+        if let Some(sent) = &mut self.tx {
+            tx.append(sent)?;
+        }
+        self.tx = Some(tx);
         Ok(())
     }
 
@@ -216,9 +134,9 @@ impl<T: Takes> PropWriter<T> {
     ) -> DavResult<()>
         requires created { meta.now.created ≤ last_moment }
         requires modified { meta.now.modified ≤ last_moment }
-        ensures tells { Tells (locks_in L.locks ls.entry) waits alone
+        ensures writes { Writes (locks_in L.locks ls.entry)
             (properties_of self.old.writer path.now meta.now)
-            self.old (λ _. self.new) (F.state fs.old) result (F.state fs.new) }
+            self.old self.new (F.state fs.old) result (F.state fs.new) }
         ensures stays { OnErr result (self.new ≡ self.old) }
         ensures memory { IfErr result (λ e. e ≡ DavError.Memory) }
     {
@@ -248,25 +166,34 @@ impl<T: Takes> PropWriter<T> {
         Ok(())
     }
 
-    /// Hands the responses that wait on, in order. `Memory` where memory runs out; then some of them may have been taken.
-    pub fn flush(&mut self, alloc: Global) -> DavResult<()>
-        ensures ok { OnOk result (self.new
-            ≡ record (hands_on T.taken self.old self.old.waiting) { waiting = [] }) }
+    /// Moves the responses that wait to the sender, in order; before one is set they wait on, for the next `flush` or for `close`.
+    /// `Memory` where memory runs out; they then wait on.
+    pub fn flush(&mut self) -> DavResult<()>
+        ensures ok { OnOk result (self.new ≡ flushed self.old) }
+        ensures err { OnErr result (self.new ≡ self.old) }
         ensures memory { IfErr result (λ e. e ≡ DavError.Memory) }
     {
-        let waiting = mem::replace(&mut self.waiting, Vec::new(alloc));
-        Ok(hand_on(alloc, &mut self.finished, waiting)?)
+        if let Some(tx) = &mut self.tx {
+            tx.append(&mut self.waiting)?;
+        }
+        Ok(())
     }
-}
 
-impl<T: Takes + Drop> PropWriter<T> {
-    /// Hands the responses that wait on, and gives back what took all of them (RFC 4918, section 14.16). `Memory` where memory runs
-    /// out.
-    pub fn close(mut self, alloc: Global) -> DavResult<T>
-        ensures ok { IfOk result (λ t. t ≡ taken_all T.taken self.finished self.waiting) }
+    /// The element with all responses, in order (RFC 4918, section 14.16): what the sender has, and then those that wait. It
+    /// declares the namespaces of the properties that are told, of those that the server knows, and none where outcomes are told.
+    /// `Memory` where memory runs out.
+    pub fn close(self, alloc: Global) -> DavResult<Element>
+        ensures ok { IfOk result (λ e. e ≡ told_by self.writer (all_written self)) }
         ensures memory { IfErr result (λ e. e ≡ DavError.Memory) }
     {
-        self.flush(alloc)?;
-        Ok(self.into_finished())
+        let PropWriter {
+            writer,
+            tx,
+            mut waiting,
+            ..
+        } = self;
+        let mut responses = tx.unwrap_or(Vec::new(alloc));
+        responses.append(&mut waiting)?;
+        Ok(told_by(alloc, &writer, responses)?)
     }
 }

@@ -323,7 +323,7 @@ impl<F: DavFileSystem + Drop, L: DavLockSystem + Drop> Engine<F, L> {
 
     // What is at a path, as text.
     fn content(&mut self, alloc: Global, path: &DavPath) -> Result<String, Fail> {
-        match self.backend.fs.metadata(path) {
+        match self.fs.metadata(path) {
             Err(_) => Ok(String::from_str(alloc, "nothing")?),
             Ok(meta) if meta.dir => Ok(String::from_str(alloc, "folder")?),
             Ok(_) => self.file(alloc, path),
@@ -332,7 +332,7 @@ impl<F: DavFileSystem + Drop, L: DavLockSystem + Drop> Engine<F, L> {
 
     // The first bytes of a file, as text.
     fn file(&mut self, alloc: Global, path: &DavPath) -> Result<String, Fail> {
-        let fs = &mut self.backend.fs;
+        let fs = &mut self.fs;
         let mut file = fs.open(alloc, path, &OpenOptions::read(), 1)?;
         let bytes = fs.read_bytes(alloc, &mut file, 64)?;
         let text = str::from_utf8(&bytes)?;
@@ -341,7 +341,7 @@ impl<F: DavFileSystem + Drop, L: DavLockSystem + Drop> Engine<F, L> {
 
     // The entity tag of what is at a path.
     fn tag(&mut self, alloc: Global, path: &DavPath) -> Result<String, Fail> {
-        let fs = &mut self.backend.fs;
+        let fs = &mut self.fs;
         match fs.metadata(path)?.tag(alloc)? {
             Some(tag) => Ok(tag),
             None => Ok(String::from_str(alloc, "none")?),
@@ -350,7 +350,7 @@ impl<F: DavFileSystem + Drop, L: DavLockSystem + Drop> Engine<F, L> {
 
     // How many locks cover a path, as text.
     fn locks(&self, alloc: Global, path: &DavPath) -> Result<String, Fail> {
-        let count = match &self.backend.ls {
+        let count = match &self.ls {
             Some(ls) => ls.discover(alloc, path)?.len(),
             None => 0,
         };
@@ -368,11 +368,13 @@ impl<F: DavFileSystem + Drop, L: DavLockSystem + Drop> Engine<F, L> {
         if source.is_star() {
             return Err(NoRow(text))?;
         }
-        let caller = &nobody(source);
+        let asker = &nobody(source);
         let mut inner = DavInner {
-            backend: &mut self.backend,
+            fs: &mut self.fs,
+            ls: &mut self.ls,
             allow: DavMethodSet::all(),
-            caller,
+            moment: 1,
+            asker,
         };
         let mut errors = MultiError::new(Vec::new(alloc));
         let outcome = inner.do_copy(alloc, source, top, to, depth, &mut errors);
@@ -387,12 +389,14 @@ impl<F: DavFileSystem + Drop, L: DavLockSystem + Drop> Engine<F, L> {
         if path.is_star() {
             return Err(NoRow(text))?;
         }
-        let meta = self.backend.fs.metadata(&path)?;
-        let caller = &nobody(&path);
+        let meta = self.fs.metadata(&path)?;
+        let asker = &nobody(&path);
         let mut inner = DavInner {
-            backend: &mut self.backend,
+            fs: &mut self.fs,
+            ls: &mut self.ls,
             allow: DavMethodSet::all(),
-            caller,
+            moment: 1,
+            asker,
         };
         let mut errors = MultiError::new(Vec::new(alloc));
         let outcome = inner.delete_items(alloc, &mut errors, depth, &meta, &path);
@@ -405,11 +409,13 @@ impl<F: DavFileSystem + Drop, L: DavLockSystem + Drop> Engine<F, L> {
         let [source, to] = paths.as_slice() else {
             return Err(NoRow(text))?;
         };
-        let caller = &nobody(source);
+        let asker = &nobody(source);
         let mut inner = DavInner {
-            backend: &mut self.backend,
+            fs: &mut self.fs,
+            ls: &mut self.ls,
             allow: DavMethodSet::all(),
-            caller,
+            moment: 1,
+            asker,
         };
         let mut errors = MultiError::new(Vec::new(alloc));
         let outcome = inner.do_move(alloc, source, to, &mut errors);
@@ -438,21 +444,19 @@ impl<F: DavFileSystem + Drop, L: DavLockSystem + Drop> Engine<F, L> {
 
 impl Player for Engine<Refusing<MemFs>, MemLs> {
     fn begin(&mut self, alloc: Global) -> Result<(), Fail> {
-        let backend = &mut self.backend;
-        backend.fs = Refusing::new(MemFs::new(alloc)?);
-        backend.ls = Some(MemLs::new(alloc)?);
+        self.fs = Refusing::new(MemFs::new(alloc)?);
+        self.ls = Some(MemLs::new(alloc)?);
         Ok(())
     }
 
     fn answer(&mut self, alloc: Global, question: &'static str) -> Result<Vec<u8>, Fail> {
         if let Some(path) = question.strip_prefix("anna locks ") {
-            let backend = &mut self.backend;
-            return lock_for_anna(alloc, &mut backend.ls, path);
+            return lock_for_anna(alloc, &mut self.ls, path);
         }
         let (word, rest) = question.split_once(' ').ok_or(NoRow(question))?;
         if word == "refuse" {
             let refusals = refusals_of(alloc, rest)?;
-            self.backend.fs.load(refusals);
+            self.fs.load(refusals);
             return Ok(Vec::from_slice(alloc, b"next")?);
         }
         Ok(self.asked(alloc, word, rest, question)?.into_bytes())
@@ -463,6 +467,5 @@ impl Player for Engine<Refusing<MemFs>, MemLs> {
 fn copies_and_moves(rt: HostRuntime) -> Result<(), Fail> {
     let fs = Refusing::new(MemFs::new(rt.alloc())?);
     let ls = Some(MemLs::new(rt.alloc())?);
-    let backend = Backend { fs, ls };
-    play_rows(&rt, &mut Engine { backend }, COPIES)
+    play_rows(&rt, &mut Engine { fs, ls }, COPIES)
 }

@@ -1,8 +1,5 @@
 //! Each call of the engine by itself, over a store and locks in memory. What is expected was worked out by hand from RFC
 //! 9110 and RFC 4918.
-ghost use Rattle.std.specs.Prelude.{◌≤◌};
-ghost use Rattle.dav_core.specs.World.{last_moment};
-
 use super::tests::{lock_for_anna, shown};
 use super::*;
 use crate::rows::{NoRow, Player, play_rows};
@@ -176,12 +173,9 @@ fn status_text(alloc: Global, status: Option<StatusCode>) -> Result<String, Fail
 }
 
 // Who makes a request for a path.
-pub(super) fn nobody<'c>(_path: &'c DavPath) -> Caller<'c>
-    ensures { result.moment ≤ last_moment }
-{
-    Caller {
+pub(super) fn nobody<'c>(_path: &'c DavPath) -> Asker<'c> {
+    Asker {
         principal: None,
-        moment: 1,
         token: Some("urn:t:1"),
     }
 }
@@ -190,7 +184,8 @@ pub(super) fn nobody<'c>(_path: &'c DavPath) -> Caller<'c>
 /// it would cost a multiple.
 #[derive(Drop)]
 pub(super) struct Engine<F: DavFileSystem + Drop, L: DavLockSystem + Drop> {
-    pub(super) backend: Backend<F, L>,
+    pub(super) fs: F,
+    pub(super) ls: Option<L>,
 }
 
 impl<F: DavFileSystem + Drop, L: DavLockSystem + Drop> Engine<F, L> {
@@ -198,11 +193,13 @@ impl<F: DavFileSystem + Drop, L: DavLockSystem + Drop> Engine<F, L> {
     pub(super) fn handle(&mut self, alloc: Global, asked: &EngineRequest) -> DavResult<Reply> {
         let request = &asked.request;
         let body = &asked.body;
-        let caller = &nobody(&request.path);
+        let asker = &nobody(&request.path);
         let mut inner = DavInner {
-            backend: &mut self.backend,
+            fs: &mut self.fs,
+            ls: &mut self.ls,
             allow: DavMethodSet::all(),
-            caller,
+            moment: 1,
+            asker,
         };
         if request.path.is_star() {
             return Err(DavError::Status(StatusCode::FORBIDDEN));
@@ -230,35 +227,31 @@ impl<F: DavFileSystem + Drop, L: DavLockSystem + Drop> Engine<F, L> {
 
     // What is at the path of a request.
     fn found(&mut self, request: &DavRequest) -> Option<DavMetaData> {
-        let backend = &mut self.backend;
-        backend.fs.metadata(&request.path).ok()
+        self.fs.metadata(&request.path).ok()
     }
 
     // What `dav_if_match` returns, as text.
     fn holds(&mut self, alloc: Global, request: &DavRequest) -> Result<String, Fail> {
-        let backend = &mut self.backend;
-        let ls = backend.ls.as_ref();
-        let (holds, tokens) = dav_if_match(alloc, request, &mut backend.fs, ls, &request.path)?;
+        let ls = self.ls.as_ref();
+        let (holds, tokens) = dav_if_match(alloc, request, &mut self.fs, ls, &request.path)?;
         Ok(format!(in alloc; "{holds}, {} tokens", tokens.len())?)
     }
 
     // What `if_match` returns, as text.
     fn status(&mut self, alloc: Global, request: &DavRequest) -> Result<String, Fail> {
         let found = self.found(request);
-        let backend = &mut self.backend;
-        let ls = backend.ls.as_ref();
+        let ls = self.ls.as_ref();
         let path = &request.path;
-        let status = if_match(alloc, request, found.as_ref(), &mut backend.fs, ls, path)?;
+        let status = if_match(alloc, request, found.as_ref(), &mut self.fs, ls, path)?;
         status_text(alloc, status)
     }
 
     // What `if_match_get_tokens` returns, as text.
     fn tokens(&mut self, alloc: Global, request: &DavRequest) -> Result<String, Fail> {
         let found = self.found(request);
-        let backend = &mut self.backend;
-        let ls = backend.ls.as_ref();
+        let ls = self.ls.as_ref();
         let path = &request.path;
-        match if_match_get_tokens(alloc, request, found.as_ref(), &mut backend.fs, ls, path)? {
+        match if_match_get_tokens(alloc, request, found.as_ref(), &mut self.fs, ls, path)? {
             Ok(tokens) => Ok(format!(in alloc; "{} tokens", tokens.len())?),
             Err(status) => status_text(alloc, Some(status)),
         }
@@ -288,16 +281,14 @@ impl<F: DavFileSystem + Drop, L: DavLockSystem + Drop> Engine<F, L> {
 
 impl Player for Engine<MemFs, MemLs> {
     fn begin(&mut self, alloc: Global) -> Result<(), Fail> {
-        let backend = &mut self.backend;
-        backend.fs = MemFs::new(alloc)?;
-        backend.ls = Some(MemLs::new(alloc)?);
+        self.fs = MemFs::new(alloc)?;
+        self.ls = Some(MemLs::new(alloc)?);
         Ok(())
     }
 
     fn answer(&mut self, alloc: Global, question: &'static str) -> Result<Vec<u8>, Fail> {
         if let Some(path) = question.strip_prefix("anna locks ") {
-            let backend = &mut self.backend;
-            return lock_for_anna(alloc, &mut backend.ls, path);
+            return lock_for_anna(alloc, &mut self.ls, path);
         }
         let (call, rest) = question.split_once(" | ").ok_or(NoRow(question))?;
         let asked = request_of(alloc, rest)?;
@@ -309,6 +300,5 @@ impl Player for Engine<MemFs, MemLs> {
 fn calls_the_engine(rt: HostRuntime) -> Result<(), Fail> {
     let fs = MemFs::new(rt.alloc())?;
     let ls = Some(MemLs::new(rt.alloc())?);
-    let backend = Backend { fs, ls };
-    play_rows(&rt, &mut Engine { backend }, CALLS)
+    play_rows(&rt, &mut Engine { fs, ls }, CALLS)
 }

@@ -4,8 +4,9 @@ use super::*;
 use crate::rows::{NoRow, Player, play_rows};
 use bytes::Bytes;
 use dav_core::element::Element;
+use dav_engine::ReplyBody;
 use dav_engine::properties::prop_writer::PropWriter;
-use dav_engine::{Gathered, ReplyBody};
+use dav_engine::reply::multistatus::Sender;
 use dav_store::memfs::MemFs;
 use dav_store::memls::MemLs;
 use http_header::HeaderMap;
@@ -13,13 +14,21 @@ use std::collections::BTreeMap;
 use std::test::Fail;
 
 // What is written, with semicolons between: the element that asks, with the names of properties of `DAV:`; then paths of which the
-// properties are found, paths with a status and a name, and `flush`. At /f is a file of one byte. Behind ` -> ` are the status of the
-// reply and its type, and the responses: each with its path, its statuses, and names of properties with their texts.
+// properties are found, paths with a status and a name, `set_tx`, perhaps with the path of a response that the sender has, and `flush`.
+// At /f is a file of one byte. Behind ` -> ` are the status of the reply and its type, and the responses: each with its path, its
+// statuses, and names of properties with their texts.
 const WRITTEN: &str = r##"# a property that is found, and one that is forbidden
 prop getcontentlength; /f; flush; /g 403 foo -> 207 application/xml; charset=utf-8; /f 200 getcontentlength=1; /g 403 foo
 prop getcontentlength; /f; /g 403 foo -> 207 application/xml; charset=utf-8; /f 200 getcontentlength=1; /g 403 foo
 prop getcontentlength; /f; /g 403 foo; flush; flush -> 207 application/xml; charset=utf-8; /f 200 getcontentlength=1; /g 403 foo
 prop getcontentlength; flush; /g 403 foo; /f -> 207 application/xml; charset=utf-8; /g 403 foo; /f 200 getcontentlength=1
+# with a sender, before what is written or behind it, and with two, of which one has a response
+prop getcontentlength; set_tx; /f; flush; /g 403 foo -> 207 application/xml; charset=utf-8; /f 200 getcontentlength=1; /g 403 foo
+prop getcontentlength; set_tx; /f; flush; /g 403 foo; flush; flush -> 207 application/xml; charset=utf-8; /f 200 getcontentlength=1; /g 403 foo
+prop getcontentlength; /f; flush; set_tx; flush; /g 403 foo -> 207 application/xml; charset=utf-8; /f 200 getcontentlength=1; /g 403 foo
+prop getcontentlength; set_tx; /f; /g 403 foo -> 207 application/xml; charset=utf-8; /f 200 getcontentlength=1; /g 403 foo
+prop getcontentlength; set_tx; /f; flush; set_tx; /g 403 foo; flush -> 207 application/xml; charset=utf-8; /f 200 getcontentlength=1; /g 403 foo
+prop getcontentlength; set_tx; /f; flush; /g 403 foo; set_tx /h -> 207 application/xml; charset=utf-8; /h; /f 200 getcontentlength=1; /g 403 foo
 # what isn't found is left out, and where nothing is, there is no status
 prop getetag foo; /f -> 207 application/xml; charset=utf-8; /f 200 getetag="2"
 prop foo; /f -> 207 application/xml; charset=utf-8; /f
@@ -37,12 +46,8 @@ fn property(alloc: Global, name: &str) -> Result<Element, NoMemory> {
     Ok(element)
 }
 
-// A writer for the element that a text names, which hands on to a tree.
-fn begun(
-    alloc: Global,
-    reply: &mut Reply,
-    text: &'static str,
-) -> Result<PropWriter<Gathered>, Fail> {
+// A writer for the element that a text names.
+fn begun(alloc: Global, reply: &mut Reply, text: &'static str) -> Result<PropWriter, Fail> {
     let asked: EngineRequest = request_of(alloc, "PROPFIND /f")?;
     let mut names = text.split(' ');
     let element = names.next().ok_or(NoRow(text))?;
@@ -50,15 +55,25 @@ fn begun(
     for name in names {
         properties.push(property(alloc, name)?)?;
     }
-    Ok(PropWriter::new(
-        alloc,
-        &asked.request,
-        reply,
-        element,
-        properties,
-        None,
-        Gathered::new(),
-    )?)
+    Ok(PropWriter::new(alloc, &asked.request, reply, element, properties, None)?)
+}
+
+// An element with one element in it, which has a text.
+fn saying(alloc: Global, outer: &str, inner: &str, text: &str) -> Result<Element, Fail> {
+    let mut said = Element::new(alloc, inner)?;
+    said.text(text)?;
+    let mut element = Element::new(alloc, outer)?;
+    element.push_element(said)?;
+    Ok(element)
+}
+
+// A sender that has a response for the path behind a blank, if one is named.
+fn sender(alloc: Global, has: &str) -> Result<Sender<Element>, Fail> {
+    let mut tx = Vec::new(alloc);
+    if let Some(path) = has.strip_prefix(' ') {
+        tx.push(saying(alloc, "response", "href", path)?)?;
+    }
+    Ok(tx)
 }
 
 // One property under a status.
@@ -125,7 +140,8 @@ fn told(alloc: Global, reply: &Reply, tree: &Element) -> Result<String, Fail> {
 // Writes properties of what is in a store.
 #[derive(Drop)]
 struct Written<F: DavFileSystem + Drop, L: DavLockSystem + Drop> {
-    backend: Backend<F, L>,
+    fs: F,
+    ls: Option<L>,
 }
 
 impl<F: DavFileSystem + Drop, L: DavLockSystem + Drop> Written<F, L> {
@@ -133,11 +149,14 @@ impl<F: DavFileSystem + Drop, L: DavLockSystem + Drop> Written<F, L> {
     fn write(
         &mut self,
         alloc: Global,
-        writer: &mut PropWriter<Gathered>,
+        writer: &mut PropWriter,
         part: &'static str,
     ) -> Result<(), Fail> {
         if part == "flush" {
-            return Ok(writer.flush(alloc)?);
+            return Ok(writer.flush()?);
+        }
+        if let Some(has) = part.strip_prefix("set_tx") {
+            return Ok(writer.set_tx(sender(alloc, has)?)?);
         }
         let mut words = part.split(' ');
         let path = DavPath::new(alloc, words.next().unwrap_or(""))?;
@@ -146,10 +165,9 @@ impl<F: DavFileSystem + Drop, L: DavLockSystem + Drop> Written<F, L> {
                 Ok(writer.write_propresponse(alloc, &path, group(alloc, status, name)?)?)
             }
             _ => {
-                let backend = &mut self.backend;
-                let meta = backend.fs.metadata(&path)?;
-                let ls = backend.ls.as_ref();
-                Ok(writer.write_props(alloc, &mut backend.fs, ls, &path, &meta)?)
+                let meta = self.fs.metadata(&path)?;
+                let ls = self.ls.as_ref();
+                Ok(writer.write_props(alloc, &mut self.fs, ls, &path, &meta)?)
             }
         }
     }
@@ -171,24 +189,25 @@ impl Player for Written<MemFs, MemLs> {
         for part in parts {
             self.write(alloc, &mut writer, part)?;
         }
-        match writer.close(alloc)?.into_tree() {
-            Some(tree) => Ok(told(alloc, &reply, &tree)?.into_bytes()),
-            None => Err(NoRow(question).into()),
-        }
+        let tree = writer.close(alloc)?;
+        Ok(told(alloc, &reply, &tree)?.into_bytes())
     }
 }
 
 // A store with a file of one byte at /f, and no locks.
-fn store_of_a_file(alloc: Global) -> Result<Backend<MemFs, MemLs>, Fail> {
+fn store_of_a_file(alloc: Global) -> Result<Written<MemFs, MemLs>, Fail> {
     let mut server = tests::lockless_server(alloc)?;
     let head = b"PUT /f HTTP/1.1\r\n\r\n";
     let exchange = Exchange::new(head, Body::Bytes(Bytes::from_static(b"x")), None, 1, None)?;
     let _ = server.handle(alloc, &exchange)?;
-    Ok(server.backend)
+    Ok(Written {
+        fs: server.fs,
+        ls: server.ls,
+    })
 }
 
 #[test]
 fn writes_properties(rt: HostRuntime) -> Result<(), Fail> {
-    let backend = store_of_a_file(rt.alloc())?;
-    play_rows(&rt, &mut Written { backend }, WRITTEN)
+    let mut written = store_of_a_file(rt.alloc())?;
+    play_rows(&rt, &mut written, WRITTEN)
 }

@@ -274,16 +274,14 @@ fn new_store(alloc: Global) -> Result<Recording<MemFs>, Fail> {
 
 impl Player for Engine<Recording<MemFs>, MemLs> {
     fn begin(&mut self, alloc: Global) -> Result<(), Fail> {
-        let backend = &mut self.backend;
-        backend.fs = new_store(alloc)?;
-        backend.ls = Some(MemLs::new(alloc)?);
+        self.fs = new_store(alloc)?;
+        self.ls = Some(MemLs::new(alloc)?);
         Ok(())
     }
 
     fn answer(&mut self, alloc: Global, question: &'static str) -> Result<Vec<u8>, Fail> {
         if let Some(path) = question.strip_prefix("anna locks ") {
-            let backend = &mut self.backend;
-            return lock_for_anna(alloc, &mut backend.ls, path);
+            return lock_for_anna(alloc, &mut self.ls, path);
         }
         let asked = request_of(alloc, question)?;
         self.recorded(alloc, &asked)
@@ -293,13 +291,13 @@ impl Player for Engine<Recording<MemFs>, MemLs> {
 impl Engine<Recording<MemFs>, MemLs> {
     // The status of the reply to a request, and the calls that were made for it.
     fn recorded(&mut self, alloc: Global, asked: &EngineRequest) -> Result<Vec<u8>, Fail> {
-        self.backend.fs.calls.clear();
+        self.fs.calls.clear();
         let status = match self.handle(alloc, asked) {
             Ok(reply) => reply.status.as_u16(),
             Err(error) => error.statuscode().as_u16(),
         };
         let mut text = format!(in alloc; "{status}")?;
-        for call in self.backend.fs.calls.iter() {
+        for call in self.fs.calls.iter() {
             text.push(' ')?;
             text.push_str(call)?;
         }
@@ -311,6 +309,5 @@ impl Engine<Recording<MemFs>, MemLs> {
 fn makes_the_calls_of_the_table(rt: HostRuntime) -> Result<(), Fail> {
     let fs = new_store(rt.alloc())?;
     let ls = Some(MemLs::new(rt.alloc())?);
-    let backend = Backend { fs, ls };
-    play_rows(&rt, &mut Engine { backend }, ROWS)
+    play_rows(&rt, &mut Engine { fs, ls }, ROWS)
 }

@@ -289,7 +289,7 @@ impl<F: DavFileSystem + Drop, L: DavLockSystem + Drop> Walking<F, L> {
     // How many faults the walk met: those of the list that no later call meets, and a lack of
     // memory in the store.
     fn met(&mut self) -> usize {
-        let fs = &mut self.server.backend.fs;
+        let fs = &mut self.server.fs;
         let mut met = if fs.was_short() { 4usize } else { 3usize };
         for _ in 0..32 {
             if fs.metadata(&self.root).is_err() {
@@ -305,11 +305,13 @@ impl<F: DavFileSystem + Drop, L: DavLockSystem + Drop> Walking<F, L> {
         if from.is_star() {
             return None;
         }
-        let caller = &nobody(from);
+        let asker = &nobody(from);
         let mut inner = DavInner {
-            backend: &mut self.server.backend,
+            fs: &mut self.server.fs,
+            ls: &mut self.server.ls,
             allow: DavMethodSet::all(),
-            caller,
+            moment: 1,
+            asker,
         };
         let mut errors = MultiError::new(Vec::new(alloc));
         let outcome = inner.do_copy(alloc, from, to, to, Depth::Infinity, &mut errors);
@@ -322,13 +324,14 @@ impl<F: DavFileSystem + Drop, L: DavLockSystem + Drop> Walking<F, L> {
         if from.is_star() {
             return None;
         }
-        let backend = &mut self.server.backend;
-        let found = backend.fs.metadata(from).ok()?;
-        let caller = &nobody(from);
+        let found = self.server.fs.metadata(from).ok()?;
+        let asker = &nobody(from);
         let mut inner = DavInner {
-            backend,
+            fs: &mut self.server.fs,
+            ls: &mut self.server.ls,
             allow: DavMethodSet::all(),
-            caller,
+            moment: 1,
+            asker,
         };
         let mut errors = MultiError::new(Vec::new(alloc));
         let outcome = inner.delete_items(alloc, &mut errors, Depth::Infinity, &found, from);
@@ -375,7 +378,7 @@ impl<F: DavFileSystem + Drop, L: DavLockSystem + Drop> Walking<F, L> {
             return None;
         }
         let refusals = refusals_in(alloc, calls)?;
-        self.server.backend.fs.load(refusals);
+        self.server.fs.load(refusals);
         if walk.contains(' ') {
             self.requested(alloc, walk)
         } else {

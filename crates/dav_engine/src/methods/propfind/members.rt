@@ -8,12 +8,12 @@ ghost use Rattle.dav_engine.specs.Follows.{as_is};
 ghost use Rattle.dav_engine.specs.Propfind.{tell_below, tell_members};
 ghost use Rattle.dav_engine.specs.Reach.{reaches_below};
 ghost use Rattle.dav_engine.specs.WalkView.{entry_view};
-ghost use Rattle.dav_engine.specs.PropWriter.{hands_on, Tells};
+ghost use Rattle.dav_engine.specs.ResponseWriter.{hands_on, Tells};
 
 use crate::depth::Reach;
 use crate::folder::{child, names_fit};
 use crate::properties::live::Resource;
-use crate::properties::prop_writer::PropWriter;
+use crate::properties::response_writer::ResponseWriter;
 use crate::properties::takes::Takes;
 use dav_core::davpath::DavPath;
 use dav_core::errors::NoMemory;
@@ -29,7 +29,7 @@ pub fn tell_below<F: DavFileSystem, L: DavLockSystem, T: Takes>(
     ls: Option<&L>,
     alloc: Global,
     reach: Reach,
-    writer: &mut PropWriter<T>,
+    writer: &mut ResponseWriter<T>,
     path: &DavPath,
     wanted: bool,
 ) -> Result<(), NoMemory>
@@ -55,7 +55,7 @@ fn tell_members<F: DavFileSystem, L: DavLockSystem, T: Takes>(
     ls: Option<&L>,
     alloc: Global,
     reach: Reach,
-    writer: &mut PropWriter<T>,
+    writer: &mut ResponseWriter<T>,
     path: &DavPath,
     entries: &[F::Entry],
 ) -> Result<(), NoMemory>
@@ -80,7 +80,7 @@ fn tell_entry<F: DavFileSystem, L: DavLockSystem, T: Takes>(
     ls: Option<&L>,
     alloc: Global,
     reach: Reach,
-    writer: &mut PropWriter<T>,
+    writer: &mut ResponseWriter<T>,
     path: &DavPath,
     entry: &F::Entry,
 ) -> Result<(), NoMemory>

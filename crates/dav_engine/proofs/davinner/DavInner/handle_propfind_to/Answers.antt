@@ -1,10 +1,10 @@
 use Rattle.std.proofs.Common.{Err, refl}
 use Rattle.std.proofs.lemmas.Result.{err_from_is_err_and}
 use Rattle.dav_core.specs.declared.errors.DavError.TheVariants as dav
+use Rattle.dav_engine.specs.OnHandler.{caller_in}
 use Rattle.dav_engine.specs.Follows.{not_begun}
 use Rattle.dav_engine.specs.Propfind.{propfind, is_propfind}
 use Rattle.dav_engine.proofs.GuardLemmas.{carried}
-use Rattle.dav_engine.proofs.ModelLemmas.{serves_from}
 use Rattle.dav_engine.proofs.davinner.DavInner.handle_propfind_to.Goals as goal
 
 pub returns-in_err-headers-clause-serves : goal.returns-in_err-headers-clause-serves
@@ -15,6 +15,6 @@ returns-in_err-headers-clause-serves g c =
 pub returns-clause-serves : goal.returns-clause-serves
 returns-clause-serves g c =
     let request = c.args.request.now in
-    let plan = propfind c.in_ok-headers.headers request.headers request.path c.args.body.now c.args.self.now.caller.now in
-    let told = c.propfind.ensures in
-    (told.0, serves_from _ c.backend.view_is (carried g.L.DavLockSystem.locks _ _ plan c.as_ref.ensures.value (is_propfind _ c.in_ok-headers.ensures) told.1), told.2)
+    let plan = propfind c.in_ok-headers.headers request.headers request.path c.args.body.now (caller_in c.args.self.now) in
+    let told = rw c.at-caller.ensures at c.propfind.ensures in
+    (told.0, carried g.L.DavLockSystem.locks _ _ plan c.as_ref.ensures.value (is_propfind _ c.in_ok-headers.ensures) told.1, told.2)

@@ -2,7 +2,7 @@ use Rattle.std.proofs.Common.{◌≡◌, ◌&&◌, ◌∙◌}
 use Rattle.std.proofs.lemmas.Result.{err_from_is_err_and}
 use Rattle.dav_engine.specs.Follows.{as_is}
 use Rattle.dav_engine.specs.Propfind.{tell_itself, tells_itself, tells_members}
-use Rattle.dav_engine.specs.PropWriter.{started}
+use Rattle.dav_engine.specs.ResponseWriter.{started}
 use Rattle.dav_engine.proofs.CutPlans.{cut_first}
 use Rattle.dav_engine.proofs.FindLemmas.{itself_told, itself_untold, itself_stopped, below_cut, both_told}
 use Rattle.dav_engine.proofs.TellLemmas.{Told}
