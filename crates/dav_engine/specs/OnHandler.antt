@@ -29,7 +29,7 @@ state_in state list inner = record { store = state inner.fs.now; locks = option_
 
 -- Who makes the request, and when.
 abbrev pub caller_in : {F L A B : Type 0} → DavInner F L A B → Caller
-caller_in inner = caller_at inner.moment inner.asker.now
+caller_in inner = caller_at inner.moment inner.caller.now
 
 -- The request still borrows the same store and the same locks, of which the list is as before, and the store may have
 -- changed; its allowed methods, its moment and who makes it are as before.
@@ -38,7 +38,7 @@ pub record SameLocksBorrowed {F L A B : Type 0} (list : L → List Lock) (old ne
   pub ls : new.ls.ghost_name ≡ old.ls.ghost_name
   pub allow : new.allow ≡ old.allow
   pub moment : new.moment ≡ old.moment
-  pub asker : new.asker ≡ old.asker
+  pub caller : new.caller ≡ old.caller
   pub locks : option_map list new.ls.now ≡ option_map list old.ls.now
 
 -- The request still borrows the same store and the same locks, which both may have changed; its allowed methods, its moment
@@ -48,7 +48,7 @@ pub record SameStateBorrowed {F L A B : Type 0} (old new : DavInner F L A B) : T
   pub ls : new.ls.ghost_name ≡ old.ls.ghost_name
   pub allow : new.allow ≡ old.allow
   pub moment : new.moment ≡ old.moment
-  pub asker : new.asker ≡ old.asker
+  pub caller : new.caller ≡ old.caller
 
 -- What is stored in the store that the request borrows is as before.
 abbrev pub KeepsWorld : {F L A B : Type 0} → (F → StoreState) → DavInner F L A B → DavInner F L A B → Type 0

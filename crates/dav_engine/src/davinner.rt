@@ -70,5 +70,5 @@ pub struct DavInner<'a, 'b, 'c, F: DavFileSystem, L: DavLockSystem> {
     /// When the request is made, in seconds since 1970; at most 253402300799, which is the end of the year 9999.
     pub moment: u64,
     /// Who makes the request, and the token for a lock that it creates.
-    pub asker: &'b Asker<'c>,
+    pub caller: &'b Asker<'c>,
 }

@@ -225,7 +225,7 @@ macro_rules! inner {
             ls: &mut $handler.ls,
             allow: $handler.allowed,
             moment: $moment,
-            asker: $asker,
+            caller: $asker,
         }
     };
 }

@@ -528,7 +528,7 @@ impl<'a, 'b, 'c, F: DavFileSystem, L: DavLockSystem> DavInner<'a, 'b, 'c, F, L> 
             self.old result self.new }
     {
         let headers = CopyHeaders::decode(alloc, request)?;
-        let caller = self.asker.at(self.moment);
+        let caller = self.caller.at(self.moment);
         let path = &request.path;
         copy_or_move(
             self.fs,

@@ -175,7 +175,7 @@ impl<'a, 'b, 'c, F: DavFileSystem, L: DavLockSystem> DavInner<'a, 'b, 'c, F, L> 
     {
         let conditions = Conditions::decode(alloc, request, &request.path)?;
         let depth = depth_in(alloc, &request.headers)?;
-        let caller = self.asker.at(self.moment);
+        let caller = self.caller.at(self.moment);
         let path = &request.path;
         delete(self.fs, self.ls, alloc, &conditions, depth, path, &caller)
     }

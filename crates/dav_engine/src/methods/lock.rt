@@ -368,7 +368,7 @@ impl<'a, 'b, 'c, F: DavFileSystem, L: DavLockSystem> DavInner<'a, 'b, 'c, F, L> 
             (λ who. spec.token_to_refresh headers.now (names path.now) who)
             self.old result self.new }
     {
-        let asker = self.asker;
+        let asker = self.caller;
         let fs = &mut *self.fs;
         let ls = self.ls.as_ref();
         let (_, tokens) = headers.conditions.dav_if_match(alloc, fs, ls)?;
@@ -418,7 +418,7 @@ impl<'a, 'b, 'c, F: DavFileSystem, L: DavLockSystem> DavInner<'a, 'b, 'c, F, L> 
         ensures path { IfOk result (λ l. l.path ≡ path.now) }
     {
         let reach = whole_depth(headers.depth)?;
-        let caller = self.asker.at(self.moment);
+        let caller = self.caller.at(self.moment);
         let fs = &mut *self.fs;
         let ls = self.ls.as_ref();
         let verdict = headers

@@ -118,7 +118,7 @@ impl<'a, 'b, 'c, F: DavFileSystem, L: DavLockSystem> DavInner<'a, 'b, 'c, F, L> 
             self.old result self.new }
     {
         let conditions = Conditions::decode(alloc, request, &request.path)?;
-        let caller = self.asker.at(self.moment);
+        let caller = self.caller.at(self.moment);
         let ls = self.ls.as_ref();
         mkcol(self.fs, ls, alloc, &conditions, &request.path, &caller)
     }

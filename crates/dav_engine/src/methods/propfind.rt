@@ -272,7 +272,7 @@ impl<'a, 'b, 'c, F: DavFileSystem, L: DavLockSystem> DavInner<'a, 'b, 'c, F, L> 
             (state_in F.state L.locks self.old) result (state_in F.state L.locks self.new) }
     {
         let headers = FindHeaders::decode(alloc, &request.headers)?;
-        let caller = self.asker.at(self.moment);
+        let caller = self.caller.at(self.moment);
         let search = Search {
             request,
             headers: &headers,

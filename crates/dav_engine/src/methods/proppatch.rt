@@ -200,7 +200,7 @@ impl<'a, 'b, 'c, F: DavFileSystem, L: DavLockSystem> DavInner<'a, 'b, 'c, F, L> 
             self.old result self.new }
     {
         let conditions = Conditions::decode(alloc, request, &request.path)?;
-        let caller = self.asker.at(self.moment);
+        let caller = self.caller.at(self.moment);
         let update = Update {
             conditions: &conditions,
             asked: &request.path,

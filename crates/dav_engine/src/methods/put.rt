@@ -375,7 +375,7 @@ impl<'a, 'b, 'c, F: DavFileSystem, L: DavLockSystem> DavInner<'a, 'b, 'c, F, L> 
             request.now.method headers.now (names request.now.path) who bytes.now)
             self.old result self.new }
     {
-        let asker = self.asker;
+        let asker = self.caller;
         let fs = &mut *self.fs;
         let ls = self.ls.as_ref();
         let method = request.method;

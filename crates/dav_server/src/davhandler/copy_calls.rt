@@ -374,7 +374,7 @@ impl<F: DavFileSystem + Drop, L: DavLockSystem + Drop> Engine<F, L> {
             ls: &mut self.ls,
             allow: DavMethodSet::all(),
             moment: 1,
-            asker,
+            caller: asker,
         };
         let mut errors = MultiError::new(Vec::new(alloc));
         let outcome = inner.do_copy(alloc, source, top, to, depth, &mut errors);
@@ -396,7 +396,7 @@ impl<F: DavFileSystem + Drop, L: DavLockSystem + Drop> Engine<F, L> {
             ls: &mut self.ls,
             allow: DavMethodSet::all(),
             moment: 1,
-            asker,
+            caller: asker,
         };
         let mut errors = MultiError::new(Vec::new(alloc));
         let outcome = inner.delete_items(alloc, &mut errors, depth, &meta, &path);
@@ -415,7 +415,7 @@ impl<F: DavFileSystem + Drop, L: DavLockSystem + Drop> Engine<F, L> {
             ls: &mut self.ls,
             allow: DavMethodSet::all(),
             moment: 1,
-            asker,
+            caller: asker,
         };
         let mut errors = MultiError::new(Vec::new(alloc));
         let outcome = inner.do_move(alloc, source, to, &mut errors);

@@ -199,7 +199,7 @@ impl<F: DavFileSystem + Drop, L: DavLockSystem + Drop> Engine<F, L> {
             ls: &mut self.ls,
             allow: DavMethodSet::all(),
             moment: 1,
-            asker,
+            caller: asker,
         };
         if request.path.is_star() {
             return Err(DavError::Status(StatusCode::FORBIDDEN));

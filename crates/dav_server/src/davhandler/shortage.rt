@@ -311,7 +311,7 @@ impl<F: DavFileSystem + Drop, L: DavLockSystem + Drop> Walking<F, L> {
             ls: &mut self.server.ls,
             allow: DavMethodSet::all(),
             moment: 1,
-            asker,
+            caller: asker,
         };
         let mut errors = MultiError::new(Vec::new(alloc));
         let outcome = inner.do_copy(alloc, from, to, to, Depth::Infinity, &mut errors);
@@ -331,7 +331,7 @@ impl<F: DavFileSystem + Drop, L: DavLockSystem + Drop> Walking<F, L> {
             ls: &mut self.server.ls,
             allow: DavMethodSet::all(),
             moment: 1,
-            asker,
+            caller: asker,
         };
         let mut errors = MultiError::new(Vec::new(alloc));
         let outcome = inner.delete_items(alloc, &mut errors, Depth::Infinity, &found, from);

@@ -39,7 +39,7 @@ pub returns-clause-memory : goal.returns-clause-memory
 returns-clause-memory g c short =
     let kept = c.grant_new-granted.ensures.memory (given_memory c.grant_new-granted.result c.given.result c.given.ensures.err short) in
     let lent = c.in_ok-lock.ensures.lent in
-    record { fs = lent.fs; ls = lent.ls; allow = lent.allow; moment = lent.moment; asker = lent.asker; locks = kept.1 ∙ lent.locks }
+    record { fs = lent.fs; ls = lent.ls; allow = lent.allow; moment = lent.moment; caller = lent.caller; locks = kept.1 ∙ lent.locks }
 
 pub returns-clause-world : goal.returns-clause-world
 returns-clause-world g c short =
