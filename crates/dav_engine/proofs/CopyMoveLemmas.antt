@@ -1,7 +1,6 @@
 -- How code follows a COPY or MOVE.
 use Rattle.std.proofs.Common.{◌≡◌, ◌≢◌, ◌⊎◌, inl, inr, ℕ, ◌&&◌, ◌||◌, zero, suc, not, if◌then◌else◌, Bool, true, false, List, [], ◌∷◌, ◌++◌, map, string_bytes, String, Option, Some, None, Result, Ok, Err, refl, sym, ap, subst, ◌∙◌}
 use Rattle.std.specs.Prelude.{IfOk, IfErr, ⊤}
-use Rattle.std.specs.declared.alloc.AllocError.{AllocError}
 use Rattle.std.specs.Global.{Vec, Global}
 use Rattle.std.specs.List.{last_or}
 use Rattle.std.specs.Option.{option_map, is_some, unwrap_or}
@@ -19,7 +18,7 @@ use Rattle.http_header.specs.FieldValue.{FieldValue}
 use Rattle.dav_engine.specs.Caller.{Caller, requester}
 use Rattle.dav_engine.specs.Conditions.{Conditions, if_match_get_tokens}
 use Rattle.dav_engine.specs.ConditionView.{texts_of, tokens_or_status}
-use Rattle.dav_engine.specs.Copied.{Copies, copy_result, FollowsLater}
+use Rattle.dav_engine.specs.Copied.{FollowsLater}
 use Rattle.dav_engine.specs.Copying.{CopyFault, copy_report, last_refusal, CopyWalk, copy_seen, copy_members, copy_listed, copy_inside, copy_kind, copy_looked, copy, copying, renaming}
 use Rattle.dav_engine.specs.CopyMove.{CopyHeaders, AreCopyHeaders, DestinationNames, is_move, copy_depth, destination_found, paths_free, folders_free, copy_free, copy_allowed, changes_members, is_replaced, clearing, drop_if, drop_if_moved, copied_status, copy_reply, transfer_reply, transfer_if_cleared, copy_found, copy_or_move}
 use Rattle.dav_engine.specs.Folder.{closed, room_at, is_folder_found}

@@ -1,7 +1,6 @@
 -- How code follows a DELETE.
 use Rattle.std.proofs.Common.{◌≡◌, ◌⊎◌, inl, inr, ℕ, Bool, true, false, List, [], ◌∷◌, ◌++◌, map, string_bytes, String, Option, Some, None, Result, Ok, Err, refl, sym, ap, subst, ◌∙◌}
 use Rattle.std.specs.Prelude.{IfOk, IfErr}
-use Rattle.std.specs.declared.alloc.AllocError.{AllocError}
 use Rattle.std.specs.Global.{Vec, Global}
 use Rattle.std.specs.Option.{option_copied, option_map}
 use denote.Ref.{Bor}
@@ -26,7 +25,7 @@ use Rattle.dav_engine.specs.Delete.{delete_allowed, delete_found, deleting, whol
 use Rattle.dav_engine.specs.Multistatus.{PathStatus, multi_reply, status_reply}
 use Rattle.dav_engine.specs.Removal.{Fault, report_of, removal}
 use Rattle.dav_engine.specs.Reply.{Reply}
-use Rattle.dav_engine.specs.Walked.{Walked, walked, Walks, StoppedIn, Removes, removal_result}
+use Rattle.dav_engine.specs.Walked.{Walked, walked, StoppedIn}
 use Rattle.dav_engine.proofs.CutPlans.{cut_in}
 use Rattle.dav_engine.proofs.Following.{ran_at, follows_done, follows_ask, follows_then, follows_err, follows_up_to}
 use Rattle.dav_engine.proofs.GuardLemmas.{follows_ok, follows_fails, guard_passed, guard_failed, guard_short, member_for}

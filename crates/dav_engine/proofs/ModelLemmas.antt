@@ -9,10 +9,9 @@ use Rattle.dav_core.specs.Locks.{Lock}
 use Rattle.dav_core.specs.Path.{Path}
 use Rattle.dav_engine.specs.Caller.{Caller}
 use Rattle.dav_engine.specs.ConditionView.{locks_in}
-use Rattle.dav_engine.specs.Follows.{as_is, Follows, FollowsOnLocks, FollowsOneOf, Serves}
+use Rattle.dav_engine.specs.Follows.{Follows, FollowsOnLocks}
 use Rattle.dav_engine.specs.Method.{MethodPlan}
 use Rattle.dav_engine.specs.Plan.{Locks}
-use Rattle.dav_engine.specs.Reply.{Reply}
 
 -- a plan was followed, and so was that for an equal value
 pub follows_for : {V A X : Type 0} {view : X → A} (plan : V → MethodPlan A) {one who : V} {old new : StoreState} {ls ms : Locks} {r : Result X DavError}

@@ -1,8 +1,7 @@
-use Rattle.std.proofs.Common.{not, ap, sym, ◌∙◌}
+use Rattle.std.proofs.Common.{not, ap, ◌∙◌}
 use Rattle.dav_engine.specs.OnHandler.{caller_in}
 use Rattle.dav_engine.specs.Follows.{served}
 use Rattle.dav_engine.specs.Lock.{lock, is_lock}
-use Rattle.dav_engine.specs.Method.{has_locks}
 use Rattle.dav_engine.proofs.GrantFollows.{lock_nowhere, lock_by}
 use Rattle.dav_engine.proofs.LookWorlds.{look_keeps_world}
 use Rattle.dav_engine.proofs.UnlockLemmas.{lists}

@@ -1,7 +1,6 @@
-use Rattle.std.proofs.Common.{not, ap, sym, ◌∙◌}
+use Rattle.std.proofs.Common.{not, ap, ◌∙◌}
 use Rattle.std.specs.Prelude.{option_map, string_bytes}
 use Rattle.dav_engine.specs.Follows.{served}
-use Rattle.dav_engine.specs.Method.{has_locks}
 use Rattle.dav_engine.specs.Unlock.{unlock, is_unlock}
 use Rattle.dav_engine.proofs.LockTokenLemmas.{token_said}
 use Rattle.dav_engine.proofs.UnlockLemmas.{lists, unlock_nowhere, unlock_nothing, unlock_by}

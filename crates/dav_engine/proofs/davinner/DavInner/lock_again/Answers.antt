@@ -1,4 +1,4 @@
-use Rattle.std.proofs.Common.{◌≡◌, OnErr, sym, ap, subst, ◌∙◌}
+use Rattle.std.proofs.Common.{◌≡◌, OnErr, sym, subst}
 use Rattle.std.specs.Option.{option_copied, option_map}
 use Rattle.std.proofs.lemmas.Result.{err_from_is_err_and}
 use Rattle.dav_core.specs.Path.{names}
