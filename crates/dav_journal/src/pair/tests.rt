@@ -197,7 +197,7 @@ fn set(bytes: &mut [u8], place: usize, byte: u8) {
 }
 
 // A mark comes late, which says that the blocks reached so far.
-fn mark(bytes: &mut [u8], reached: u64) {
+pub fn mark(bytes: &mut [u8], reached: u64) {
     if let Some(place) = bytes.get_mut(56..72) {
         place.copy_from_slice(&twice_bytes(reached));
     }

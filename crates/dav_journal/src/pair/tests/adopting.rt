@@ -2,13 +2,14 @@
 use crate::error::JournalError;
 use crate::journal::{Journal, crash};
 use crate::pair::Pair;
-use crate::pair::tests::{disk, file, files, found, zero};
+use crate::pair::tests::{disk, file, files, found, mark, zero};
 use sqlite_disk::{Disk, Fuse, Memory};
 use std::alloc::Global;
 use std::test::Fail;
 
 /// A file of before and another one, and after how many steps they are once it was taken over, or why it is refused. `former` has
-/// a block of before and one more; `copy` is what a crash left of its copy, and `another` and `longer` aren't copies of it.
+/// a block of before and one more; `copy` is what a crash left of its copy, and `another` and `longer` aren't copies of it. Of
+/// `lost`, one of before, the marks alone are left; to `late`, which was cleared, a mark came late.
 const FORMER: &str = "
 former empty -> taken over, 2
 former front -> taken over, 2
@@ -21,6 +22,10 @@ former new -> Foreign
 former newer -> Foreign
 former other -> Foreign
 cut empty -> Damaged
+lost empty -> Damaged
+lost copy -> Damaged
+late new -> 3
+late newer -> 5
 other empty -> Foreign
 old empty -> 2
 old new -> 3
@@ -49,9 +54,20 @@ fn of_blocks(alloc: Global, blocks: &[&[u8]]) -> Result<Vec<u8>, JournalError> {
     Ok(bytes)
 }
 
-// The file of a name, without marks.
+// A file of before whose blocks are lost.
+fn lost(alloc: Global) -> Result<Vec<u8>, Fail> {
+    let mut bytes = former(alloc)?;
+    let len = bytes.len();
+    zero(&mut bytes, 72, len);
+    mark(&mut bytes, len.saturating_sub(1) as u64);
+    Ok(bytes)
+}
+
+// The file of a name, without marks but for `lost` and `late`.
 fn unmarked(alloc: Global, name: &str) -> Result<Vec<u8>, Fail> {
     let mut bytes = match name {
+        "lost" => return lost(alloc),
+        "late" => return file(alloc, name),
         "former" => former(alloc)?,
         "cut" => {
             let mut bytes = former(alloc)?;
