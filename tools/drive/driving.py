@@ -414,6 +414,7 @@ OURS = [
     ("GET", (200,), (206, 304, 412, 416), lambda asked, _: any(asked.value(name) for name in (b"range", b"if-modified-since", b"if-unmodified-since")), "reads whole files: no ranges, no If-Modified-Since"),
     ("HEAD", (200,), (304, 412), has(b"if-modified-since"), "reads whole files: no ranges, no If-Modified-Since"),
     ("GET HEAD", (200,), (304,), lambda asked, _: b"W/" in (asked.value(b"if-none-match") or b""), "If-None-Match compares strongly"),
+    ("PUT", (416,), (400,), has(b"content-range"), "a Content-Range that names no bytes is 416"),
     ("UNLOCK", (204,), (403,), always, "Who knows a lock's token may end it"),
     ("UNLOCK", (204,), (409, 412), always, "find that lock at their path or on a folder above"),
     ("LOCK", (200,), (403, 409, 412, 423), lambda asked, _: asked.value(b"if") is not None, "A LOCK without a body refreshes the lock"),

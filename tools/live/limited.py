@@ -141,7 +141,8 @@ def do(tree, request, status):
         if request.depth != "0" or tree.nodes.get(to) is not None:  # a folder that is there stays where only a folder itself is copied
             tree.remove(to)
         taken = {at[len(target):]: data for at, data in tree.at_and_below(target).items() if request.depth != "0" or at == target}
-        stored = {at: dict(tree.properties.get(target + at, {})) for at in taken}
+        # (a COPY takes the properties of files along, and none of folders: docs/DEVIATIONS.md)
+        stored = {at: dict(tree.properties.get(target + at, {})) for at, data in taken.items() if method == "MOVE" or data is not None}
         if method == "MOVE":
             tree.remove(target)
         tree.nodes.update((to + at, data) for at, data in taken.items())

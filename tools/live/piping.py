@@ -9,6 +9,9 @@ HELLO, OPENED, GOT, SENT, GONE, PASSED = range(6)
 HOST = b"Host: localhost:4918\r\n"
 FILES = 6
 
+# The bytes of the first body: a journal begins anew once its records are longer than its first block, which has 4 KiB at least.
+LEAST = 1000
+
 # A second that passed, among requests. Two of them are one in which nothing was asked: then a long journal begins anew.
 SECOND = "a second"
 QUIET = (SECOND, SECOND)
@@ -46,7 +49,7 @@ def run(words, *requests, answered=None, **more):
 
 
 def body(number):
-    return bytes([65 + number % 26]) * (40 + 7 * number)
+    return bytes([65 + number % 26]) * (LEAST + 7 * number)
 
 
 def put(number):
@@ -70,7 +73,7 @@ def put_in(answer):
     head, _, told = answer.partition(b"\r\n\r\n")
     if re.match(rb"HTTP/1.1 404 ", head):
         return None
-    number = (len(told) - 40) // 7
+    number = (len(told) - LEAST) // 7
     return number if number >= 0 and head.startswith(b"HTTP/1.1 200 ") and told == body(number) else answer
 
 

@@ -115,4 +115,4 @@ def former(file):
     first, *others = contents(file)
     length = struct.unpack(">Q", first[8:16])[0]
     assert len(first) == 16 + length, "a snapshot"
-    return made(file, [first[16:], *others])
+    return made(file, [first[16:].rstrip(b"\0"), *others])

@@ -43,7 +43,7 @@ unread_step s x old new ls ms reply out (steps plan outcome means ran) =
 
 content_left : (old new : Server) (x : Exchange) (reply : Reply) → Answers old x reply new → SafeLeaves x old.state new.state
     → IsWorld old.state.store.world → x.moment ≤ last_moment → All (λ (e : Option FsError). e ≡ None) old.state.store.refusals → new.state.store.short ≡ false
-    → Leaves x.head reply.status → SameContent old.state new.state
+    → Leaves x.head reply → SameContent old.state new.state
 content_left old new x reply step safe world small none unset (leaves.no_head out) =
     unread_step old.settings x old.state.store new.state.store old.state.locks new.state.locks reply (inl out) step
 content_left old new x reply step safe world small none unset (leaves.reading r m is gives reads) = safe (m, (r, is, gives), reads)
@@ -55,7 +55,7 @@ content_left old new x reply step safe world small none unset (leaves.early r m 
 -- of a store in memory that had memory for all, the same content is the same state
 pub left_as_it_was : (old new : Server) (x : Exchange) (reply : Reply) (s t : Store) → new.settings ≡ old.settings → Answers old x reply new
     → SafeLeaves x old.state new.state → IsWorld old.state.store.world → x.moment ≤ last_moment
-    → state_of s ≡ old.state.store → state_of t ≡ new.state.store → s.short ≡ false → t.short ≡ false → Leaves x.head reply.status → new ≡ old
+    → state_of s ≡ old.state.store → state_of t ≡ new.state.store → s.short ≡ false → t.short ≡ false → Leaves x.head reply → new ≡ old
 left_as_it_was old new x reply s t settings step safe holds small was now had has left =
     let none : All (λ (e : Option FsError). e ≡ None) old.state.store.refusals = subst (All (λ (e : Option FsError). e ≡ None)) (ap (λ (u : StoreState). u.refusals) was) (All-nil (λ (e : Option FsError). e ≡ None)) in
     let unset : new.state.store.short ≡ false = ap (λ (u : StoreState). u.short) (sym now) ∙ has in

@@ -202,7 +202,7 @@ impl Handler {
 
     /// The reply to a request with this head and a body of these bytes, by this caller: those of a step of the machine. What
     /// the client is told in XML may be sent, so it can be read (RFC 4918, section 8.2). A request that only reads, one of a method that isn't
-    /// served, and one that is answered with an error that only comes before a change leave the server as it was (`Leaves`).
+    /// served, and one whose reply is that to an error that only comes before a change leave the server as it was (`Leaves`).
     ///
     /// `Principal` exactly where a reply can't tell the caller's name; nothing is changed then. `Memory` where memory runs out.
     pub fn handle(
@@ -214,7 +214,7 @@ impl Handler {
     ) -> Result<Reply, HandleError>
         ensures step { IfOk result (λ reply.
             IsStepFor head.now body caller.now self.old.server reply self.new.server) }
-        ensures left { IfOk result (λ reply. Leaves head.now reply.status
+        ensures left { IfOk result (λ reply. Leaves head.now reply
             → self.new.server ≡ self.old.server) }
         ensures principal { IsErrOf result HandleError.Principal
             ↔ ¬ IsSendableTextIfAny caller.now.principal }
@@ -241,7 +241,7 @@ impl Handler {
     ) -> Result<(Reply, Option<T>), HandleError>
         ensures step { IfOk result (λ told. IsStepInParts T.opened T.taken to head.now body
             caller.now self.old.server told.0 told.1 self.new.server) }
-        ensures left { IfOk result (λ told. Leaves head.now told.0.status
+        ensures left { IfOk result (λ told. Leaves head.now told.0
             → self.new.server ≡ self.old.server) }
         ensures principal { IsErrOf result HandleError.Principal
             ↔ ¬ IsSendableTextIfAny caller.now.principal }
@@ -326,7 +326,7 @@ impl Handler {
         requires sendable { IsSendableRequest exchange.now }
         ensures parts { IfOk result (λ told. AnsweredInParts T.opened T.taken to
             self.old.server exchange.now told.0 told.1 self.new.server) }
-        ensures left { IfOk result (λ told. Leaves exchange.now.head told.0.status
+        ensures left { IfOk result (λ told. Leaves exchange.now.head told.0
             → self.new.server ≡ self.old.server) }
         ensures memory { OnErr result (result ≡ Err HandleError.Memory) }
     {

@@ -1,5 +1,5 @@
 //! The head of a request that came, read once, and what of it is run and kept (RFC 9112, sections 2 to 5).
-ghost use Rattle.std.specs.Prelude.{◌≡◌, ◌↔◌, ℕ, List, Ok, Option, true, IfOk, IsTrue, codes};
+ghost use Rattle.std.specs.Prelude.{◌≡◌, ◌≢◌, ◌↔◌, ℕ, [], List, Ok, Option, true, IfOk, IsTrue, codes};
 ghost use Rattle.std.specs.Option.{option_map};
 ghost use Rattle.http_header.specs.HeaderMap.{get_all};
 ghost use Rattle.dav_core.specs.declared.method.DavMethod.{DavMethod as DavMethodValue};
@@ -7,9 +7,10 @@ ghost use Rattle.dav_headers.specs.Timeout.{IsTimeout};
 ghost use Rattle.dav_headers.specs.Value.{Decodes};
 ghost use Rattle.dav_headers.specs.declared.timeout.DavTimeout.{DavTimeout as DavTimeoutValue};
 ghost use Rattle.dav_engine.specs.LockHeaders.{preferred};
+ghost use Rattle.dav_engine.specs.Reply.{headers_in};
 ghost use Rattle.dav_server.specs.Head.{IsHead, Request};
 ghost use Rattle.dav_server.specs.Headers.{headers_of};
-ghost use Rattle.dav_server.specs.Leaving.{IsEarlyError, is_early_status, may_come_late};
+ghost use Rattle.dav_server.specs.Leaving.{IsEarlyError, IsErrorReply, may_come_late};
 ghost use Rattle.dav_server.specs.Method.{GivesServed};
 ghost use Rattle.dav_server.specs.TagLaws.{is_safe};
 ghost use Rattle.dav_http.specs.Kept.{lowered};
@@ -20,10 +21,12 @@ mod text;
 
 use dav_core::errors::NoMemory;
 use dav_core::method::DavMethod;
+use dav_engine::Reply;
 use dav_engine::headers::{absent_if_invalid, values_of};
 use dav_headers::{DavTimeout, Timeout, names};
 use dav_server::head::{RequestView, headers_of, read_head};
 use dav_server::method::method_of;
+use http_header::HeaderMap;
 use std::alloc::Global;
 use std::marker::Model;
 
@@ -92,11 +95,12 @@ impl<'a> Head<'a> {
         self.view.values(name).next()
     }
 
-    /// Whether the request, where it is answered with this status, left the server as it was: see the function `leaves`.
-    pub fn leaves(&self, status: u16) -> bool
-        ensures { (bytes : List ℕ) → IsHead bytes self.now → (IsTrue result ↔ Leaves bytes status) }
+    /// Whether the request, where it has this reply, left the server as it was: see the function `leaves`.
+    pub fn leaves(&self, reply: &Reply) -> bool
+        ensures { (bytes : List ℕ) → IsHead bytes self.now
+            → (IsTrue result ↔ Leaves bytes reply.now) }
     {
-        method_leaves(self.method(), status)
+        method_leaves(self.method(), reply)
     }
 
     // Whether there is no field with this name.
@@ -167,11 +171,19 @@ pub fn is_safe(method: &[u8]) -> bool
     )
 }
 
-// Whether the status is one of those with which nothing was done of a request that may be carried out in part.
-fn is_early_status(status: u16) -> bool
-    ensures { result ≡ is_early_status status }
+// Whether there is a header.
+#[tactic(auto, using(crate::proofs::LeavesLemmas::has_header))]
+fn has_header(headers: &HeaderMap) -> bool
+    ensures { IsTrue result ↔ (headers_in headers.now ≢ []) }
 {
-    (status == 400) | (status == 412) | (status == 415) | (status == 423)
+    headers.len() > 0
+}
+
+// Whether a reply is that to an error which ended the request: it has a header.
+fn is_error_reply(reply: &Reply) -> bool
+    ensures { IsTrue result ↔ IsErrorReply reply.now }
+{
+    (reply.status.as_u16() >= 400) & has_header(&reply.headers)
 }
 
 // Whether an error of this method with this status may come after something was changed.
@@ -180,39 +192,38 @@ fn may_come_late(method: DavMethod, status: u16) -> bool
 {
     match method {
         DavMethod::Put | DavMethod::Patch => (status == 404) | (status == 413) | (status == 500),
-        DavMethod::Delete | DavMethod::Copy | DavMethod::Move => !is_early_status(status),
-        DavMethod::Lock => !is_early_status(status) | (status == 412),
+        DavMethod::Lock => !((status == 400) | (status == 415) | (status == 423)),
         _ => false,
     }
 }
 
-// Whether the status is an error that only comes before this method changes something.
-fn is_early_error(method: DavMethod, status: u16) -> bool
-    ensures { IsTrue result ↔ IsEarlyError method status }
+// Whether a reply is that to an error that only comes before this method changes something.
+fn is_early_error(method: DavMethod, reply: &Reply) -> bool
+    ensures { IsTrue result ↔ IsEarlyError method reply.now }
 {
-    (status >= 400) & !may_come_late(method, status)
+    is_error_reply(reply) && !may_come_late(method, reply.status.as_u16())
 }
 
-// Whether a request with this method, and which is answered with this status, left the server as it was.
-fn method_leaves(method: &[u8], status: u16) -> bool
+// Whether a request with this method, and which has this reply, left the server as it was.
+fn method_leaves(method: &[u8], reply: &Reply) -> bool
     ensures { (head : List ℕ) (r : Request) → IsHead head r → method.now ≡ r.method
-        → (IsTrue result ↔ Leaves head status) }
+        → (IsTrue result ↔ Leaves head reply.now) }
 {
     match method_of(method) {
-        Ok(known) => is_safe(method) | is_early_error(known, status),
+        Ok(known) => is_safe(method) | is_early_error(known, reply),
         Err(_) => true,
     }
 }
 
-/// Whether a request with this head, and which is answered with this status, left the server as it was: the bytes are no head,
-/// its method only reads or isn't served, or the status is an error that only comes before its method changes something. It may
-/// come later where a PUT or PATCH is answered 404, 413 or 500, a DELETE, COPY or MOVE another than 400, 412, 415 and 423, and a
-/// LOCK another than 400, 415 and 423 (RFC 9110, sections 9.2.1, 15.5 and 15.6).
-pub fn leaves(head: &[u8], status: u16) -> bool
-    ensures { IsTrue result ↔ Leaves head.now status }
+/// Whether a request with this head, and which has this reply, left the server as it was: the bytes are no head, its method only
+/// reads or isn't served, or the reply is that to an error that only comes before its method changes something. A DELETE, COPY or
+/// MOVE that was carried out in part has no reply to an error, though it may have its status. An error may come later where a PUT
+/// or PATCH is answered 404, 413 or 500, and a LOCK otherwise than 400, 415 and 423 (RFC 9110, sections 9.2.1, 15.5 and 15.6).
+pub fn leaves(head: &[u8], reply: &Reply) -> bool
+    ensures { IsTrue result ↔ Leaves head.now reply.now }
 {
     match Head::read(head) {
-        Some(head) => method_leaves(head.method(), status),
+        Some(head) => method_leaves(head.method(), reply),
         None => true,
     }
 }

@@ -7,7 +7,7 @@ use Rattle.std.proofs.lemmas.Grind.{flat_map-append}
 use Rattle.std.proofs.lemmas.List.Folds.{concat-append}
 use Rattle.dav_kept.specs.Records.{IsRecord, OneReading, RecordView, records_bytes, latest_moment, record_bytes, count_tokens, token_count}
 use Rattle.dav_kept.specs.declared.kept.Kept.{Kept}
-use Rattle.dav_kept.specs.Kept.{RecordsFollow, Holding, Leads, PlaysRecords, RecordsRun, StaysAsKept, committed, first_block, held_by, preface_of, snapshot_of}
+use Rattle.dav_kept.specs.Kept.{RecordsFollow, Holding, Leads, PlaysRecords, Preface, RecordsRun, StaysAsKept, committed, first_block, held_by, preface_of, snapshot_of}
 use Rattle.dav_kept.proofs.RecordLemmas.{one_record}
 
 pub tokens_append : (rs qs : List RecordView) → count_tokens (rs ++ qs) ≡ count_tokens rs + count_tokens qs
@@ -140,4 +140,4 @@ four_parts p t l s one two three four a b c d =
 pub first_same : {H J : Type 0} (saved : H → List ℕ) (old new : Kept H J) (block : List ℕ) → preface_of new ≡ preface_of old → held_by new ≡ committed (held_by old)
     → block ≡ first_block (preface_of new) (Some (snapshot_of saved (held_by new))) → block ≡ first_block (preface_of old) (Some (snapshot_of saved (held_by old)))
 first_same {H} saved old new block preface held is =
-    is ∙ ap (λ (p : List ℕ). first_block p (Some (snapshot_of saved (held_by new)))) preface ∙ ap (λ (h : Holding H). first_block (preface_of old) (Some (snapshot_of saved h))) held
+    is ∙ ap (λ (p : Preface). first_block p (Some (snapshot_of saved (held_by new)))) preface ∙ ap (λ (h : Holding H). first_block (preface_of old) (Some (snapshot_of saved h))) held

@@ -1,5 +1,5 @@
 -- The state that the records of a journal make, and what a server keeps.
-use Rattle.std.specs.Prelude.{◌≡◌, ◌⊎◌, ℕ, suc, ◌+◌, ◌≤◌, max, Bool, true, false, Option, Some, None, List, [], ◌∷◌, ◌++◌, All}
+use Rattle.std.specs.Prelude.{◌≡◌, ◌⊎◌, ℕ, suc, ◌+◌, ◌-◌, ◌≤◌, max, Bool, true, false, Option, Some, None, List, [], ◌∷◌, ◌++◌, All, length, replicate}
 use Rattle.std.specs.Int.{w64, to_be_bytes}
 use Rattle.std.specs.List.{concat}
 use Rattle.http_server.specs.declared.response.Response.{Response}
@@ -64,14 +64,31 @@ abbrev pub snapshot_of : {S : Type 0} → (S → List ℕ) → Holding S → Sna
 snapshot_of saved now =
     record { tokens = now.tokens; latest = now.latest; saved = saved now.state }
 
--- the bytes of a snapshot, none where there is none
-abbrev pub snapshot_bytes : Option Snapshot → List ℕ
-snapshot_bytes None = []
-snapshot_bytes (Some s) = to_be_bytes w64 s.tokens ++ (to_be_bytes w64 s.latest ++ s.saved)
+-- the bytes of a snapshot
+abbrev pub snapshot_bytes : Snapshot → List ℕ
+snapshot_bytes s = to_be_bytes w64 s.tokens ++ (to_be_bytes w64 s.latest ++ s.saved)
 
--- the first block of a journal: the preface with its length, and the snapshot
-abbrev pub first_block : List ℕ → Option Snapshot → List ℕ
-first_block preface start = sized_bytes preface ++ snapshot_bytes start
+-- The preface of a journal: its text, and whether zeros stand behind that in the first block. In a
+-- journal from before none do.
+abbrev pub Preface : Type 0
+Preface = List ℕ × Bool
+
+-- a text, with zeros behind it so that it has so many bytes at least
+abbrev pub with_zeros : ℕ → List ℕ → List ℕ
+with_zeros count text = text ++ replicate (count - length text) 0
+
+-- the text of a preface as it stands in a first block: up to so many bytes, where zeros are behind it
+abbrev pub filled : ℕ → Preface → List ℕ
+filled count (text, true) = with_zeros count text
+filled count (text, false) = text
+
+-- The first block of a journal: the preface with its length, and the snapshot, if there is one. With
+-- zeros it ends behind the first 4,096 bytes of the file, so that no other block shares these with
+-- the marks. Without a snapshot there are zeros where the other ones have theirs: what the first
+-- 4,096 bytes have of the one, and what follows them of the other, are no block.
+abbrev pub first_block : Preface → Option Snapshot → List ℕ
+first_block preface None = sized_bytes (filled 8192 preface)
+first_block preface (Some s) = sized_bytes (filled 4096 preface) ++ snapshot_bytes s
 
 -- What a server holds that has read the first block: its first state, or what the snapshot has,
 -- with a state that is loaded from the bytes.
@@ -160,8 +177,8 @@ abbrev pub journal_of : {H J : Type 0} → Kept H J → J
 journal_of k = k.journal
 
 -- what the first block of its journal begins with
-abbrev pub preface_of : {H J : Type 0} → Kept H J → List ℕ
-preface_of k = k.preface.items
+abbrev pub preface_of : {H J : Type 0} → Kept H J → Preface
+preface_of k = (k.preface.items, k.has_zeros)
 
 -- where the blocks of its journal ended at its last snapshot
 abbrev pub base_of : {H J : Type 0} → Kept H J → ℕ

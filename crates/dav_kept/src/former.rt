@@ -1,5 +1,5 @@
 //! The journal of a server from before it made snapshots, in either of the formats that were before.
-ghost use Rattle.std.specs.Prelude.{◌∷◌, ℕ, List, None, IsTrue, IsFalse, IfOk};
+ghost use Rattle.std.specs.Prelude.{◌∷◌, ℕ, List, None, true, IsTrue, IsFalse, IfOk};
 ghost use Rattle.dav_journal.specs.Elder.{LeavesGoing, LeavesGone, Mixes};
 ghost use Rattle.dav_journal.specs.Journal.{LeavesOnly};
 ghost use Rattle.dav_journal.specs.Pair.{IsCleanPair, LeavesFormer, PairLeavesOnly, counting};
@@ -26,23 +26,25 @@ pub fn adopt<D: Disk + Drop>(
     ensures clean { IsCleanPair D.Disk pair.new → IsCleanPair D.Disk pair.old }
     ensures adopted { IfOk result (λ is. IsCleanPair D.Disk pair.new → (blocks : List (List ℕ))
         → LeavesOnly D.Disk (counting pair.old) (preface.now ∷ blocks)
-        → IsTrue is × PairLeavesOnly D.Disk pair.new (first_block preface.now None ∷ blocks)) }
+        → IsTrue is × PairLeavesOnly D.Disk pair.new
+        (first_block (preface.now, true) None ∷ blocks)) }
     ensures any_moment { IsCleanPair D.Disk pair.new → (blocks : List (List ℕ))
         → LeavesOnly D.Disk (counting pair.old) (preface.now ∷ blocks)
         → LeavesFormer D.Disk pair.new (preface.now ∷ blocks)
-        (first_block preface.now None ∷ blocks) }
+        (first_block (preface.now, true) None ∷ blocks) }
     ensures elder { IfOk result (λ is. IsCleanPair D.Disk pair.new → (blocks : List (List ℕ))
-        → LeavesGoing D.Disk pair.old preface.now (first_block preface.now None) blocks
-        → IsTrue is × PairLeavesOnly D.Disk pair.new (first_block preface.now None ∷ blocks)) }
+        → LeavesGoing D.Disk pair.old preface.now (first_block (preface.now, true) None) blocks
+        → IsTrue is × PairLeavesOnly D.Disk pair.new
+        (first_block (preface.now, true) None ∷ blocks)) }
     ensures elder_any_moment { Mixes D.Disk → IsCleanPair D.Disk pair.new
         → (blocks : List (List ℕ))
-        → LeavesGoing D.Disk pair.old preface.now (first_block preface.now None) blocks
-        → LeavesGone D.Disk pair.new preface.now (first_block preface.now None) blocks }
+        → LeavesGoing D.Disk pair.old preface.now (first_block (preface.now, true) None) blocks
+        → LeavesGone D.Disk pair.new preface.now (first_block (preface.now, true) None) blocks }
     ensures another { IfOk result (λ is. IsFalse is → IsCleanPair D.Disk pair.new
         → (contents : List (List ℕ)) → PairLeavesOnly D.Disk pair.old contents
         → PairLeavesOnly D.Disk pair.new contents) }
 {
-    let first = plain_block(alloc, preface)?;
+    let first = plain_block(alloc, preface, true)?;
     if pair.adopt_elder(alloc, preface, &first)? {
         return Ok(true);
     }

@@ -32,6 +32,8 @@ pub struct Kept<H, J> {
     journal: J,
     /// What the first block of the journal begins with.
     preface: Vec<u8>,
+    /// Whether zeros stand behind that: not in a journal from before.
+    has_zeros: bool,
     /// Whether the journal has no block.
     is_new: bool,
     /// Where the blocks ended when a snapshot was last made or tried; at a start, where the first one
@@ -52,9 +54,10 @@ pub struct Kept<H, J> {
 impl<H: Handles + Drop, J: Keeps + Drop> Kept<H, J> {
     /// A server whose state is that of the run of the records in the blocks of a journal, from that
     /// of this handler, or from the snapshot in the first block. The first block begins with the
-    /// preface: `OtherPreface` where it is another. `Damaged` where the first block or a snapshot
-    /// is none, where a block has no records, where the handler takes a request of them for none,
-    /// or where a reply has another status than its record.
+    /// preface, behind which zeros stand unless the journal is one from before: `OtherPreface` where
+    /// it is another. `Damaged` where the first block or a snapshot is none, where a block has no
+    /// records, where the handler takes a request of them for none, or where a reply has another
+    /// status than its record.
     pub fn open(
         alloc: Global,
         handler: H,
@@ -65,17 +68,19 @@ impl<H: Handles + Drop, J: Keeps + Drop> Kept<H, J> {
             × IsRunOf (answer_step H.answers) H.loads handler start blocks (held_by k)
             × (J.is_clean (journal_of k) → J.has_so_far journal []
             → J.has_read (journal_of k)
-            (with_first (is_new k) (first_block preface.now start) blocks))
+            (with_first (is_new k) (first_block (preface_of k) start) blocks))
             × (is_new k ≡ true → (blocks ≡ []) × (start ≡ None))) }
         ensures empty { IfOk result (λ k. (held_by k).batch ≡ []) }
         ensures clean { IfOk result (λ k. J.is_clean (journal_of k) → J.is_clean journal) }
-        ensures preface { IfOk result (λ k. preface_of k ≡ preface.now) }
+        ensures preface { IfOk result (λ k. (preface_of k).0 ≡ preface.now) }
+        ensures zeros { IfOk result (λ k. is_new k ≡ true → (preface_of k).1 ≡ true) }
     {
         let mut kept = Kept {
             alloc,
             handler,
             journal,
             preface: Vec::from_slice(alloc, preface)?,
+            has_zeros: true,
             is_new: true,
             base: 0,
             is_marked: false,
@@ -157,7 +162,7 @@ impl<H: Handles + Drop, J: Keeps + Drop> Kept<H, J> {
             → J.has_read (journal_of self.old) blocks
             → J.kept (journal_of self.new) (with_opening is_noted blocks)) }
     {
-        let first = plain_block(self.alloc, &self.preface)?;
+        let first = plain_block(self.alloc, &self.preface, self.has_zeros)?;
         self.journal.begin()?;
         if self.is_new {
             self.journal.keep(self.alloc, &first)?;

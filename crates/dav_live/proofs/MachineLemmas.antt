@@ -31,15 +31,15 @@ use Rattle.dav_live.specs.Locked.{IsTold, as_it_was}
 use Rattle.dav_live.specs.Answers.{AsksToSee, IsAnswer, IsBarred, IsForeignUnlock, IsKeptFrom, IsListingSent, IsLook, IsNotRun, IsRefused, IsSentFor, MayUnlockIn, barred, caller_of, full, presented, refused, replied, seen, shown, told}
 
 -- a GET or HEAD leaves the server
-seeing_leaves : (head : List ℕ) (status : ℕ) → AsksToSee head → Leaves head status
-seeing_leaves head status (inl (r, is, named)) = reading r Get is (tt, named) refl
-seeing_leaves head status (inr (r, is, named)) = reading r Head is (tt, named) refl
+seeing_leaves : (head : List ℕ) (reply : Reply) → AsksToSee head → Leaves head reply
+seeing_leaves head reply (inl (r, is, named)) = reading r Get is (tt, named) refl
+seeing_leaves head reply (inr (r, is, named)) = reading r Head is (tt, named) refl
 
 module _ (old mid : Server) (q : RequestView) (head : List ℕ) (same : head ≡ q.head) (reply : Reply) (sent : Response) (step : IsStepFor q.head q.body (caller_of q) old reply mid)
-    (left : Leaves q.head reply.status → mid ≡ old) where
+    (left : Leaves q.head reply → mid ≡ old) where
   -- where a folder is asked for, the server is as it was
   pub folder_leaves : (reply.status ≡ 405) × AsksToSee head → mid ≡ old
-  folder_leaves (status, sees) = left (seeing_leaves q.head reply.status (subst AsksToSee same sees))
+  folder_leaves (status, sees) = left (seeing_leaves q.head reply (subst AsksToSee same sees))
 
   pub folder_answered : (new : Server) → (reply.status ≡ 405) × AsksToSee head → (new ≡ mid) × ((sent.status ≡ 200) ⊎ IsSentFor new q reply sent) → IsAnswer old q sent new
   folder_answered new (status, sees) (is_mid, inl page) =
@@ -57,8 +57,8 @@ listing_told : (locks : Locks) (prefix head : List ℕ) (principal : Option (Lis
 listing_told locks prefix head principal r listed = as_it_was (λ bare. let wrong : 207 ≡ 423 = sym listed ∙ bare.0 in omega (arith, wrong)) refl
 
 -- a PROPFIND leaves the server
-pub finding_leaves : (head : List ℕ) (r : Request) → IsHead head r → r.method ≡ codes "PROPFIND" → (status : ℕ) → Leaves head status
-finding_leaves head r is named status = reading r PropFind is (tt, named) refl
+pub finding_leaves : (head : List ℕ) (r : Request) → IsHead head r → r.method ≡ codes "PROPFIND" → (reply : Reply) → Leaves head reply
+finding_leaves head r is named reply = reading r PropFind is (tt, named) refl
 
 module _ (old mid : Server) (q : RequestView) (start : Listed) (reply : Reply) (sent : Response) where
   -- what was handed on to a listing is shown

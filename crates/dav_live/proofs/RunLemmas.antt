@@ -4,7 +4,7 @@ use Rattle.std.specs.List.{concat}
 use Rattle.std.proofs.lemmas.Grind.{flat_map-append}
 use Rattle.std.proofs.lemmas.List.Elements.{All-append, All-cons, All-nil}
 use Rattle.http_server.specs.declared.response.Response.{Response}
-use Rattle.dav_kept.specs.Kept.{Holding, IsAnswerOf, IsRunOf, Leads, LoadsWhatWasSaved, RecordsFollow, RecordsRun, Snapshot, StaysInJournal, answer_step, committed, first_block, held_by, is_new, journal_of, preface_of, snapshot_of, with_batch, with_first, with_opening, with_snapshot}
+use Rattle.dav_kept.specs.Kept.{Holding, IsAnswerOf, IsRunOf, Leads, LoadsWhatWasSaved, Preface, RecordsFollow, RecordsRun, Snapshot, StaysInJournal, answer_step, committed, first_block, held_by, is_new, journal_of, preface_of, snapshot_of, with_batch, with_first, with_opening, with_snapshot}
 use Rattle.dav_kept.specs.Life.{IsDetermined, IsRunSince}
 use Rattle.dav_kept.specs.Records.{IsRecord, RecordView, RequestView, count_tokens, latest_moment, record_bytes, records_bytes, token_count}
 use Rattle.dav_kept.specs.declared.handler.Effect.{Effect}
@@ -165,7 +165,7 @@ module _ {H J : Type 0} (answers : H → RequestView → Response → H → Type
           more,
           is_run first (records ++ more) new one.start one.blocks (y.0, y.1 ∙ ap (λ (rs : List RecordView). rs ++ more) one.are)
               (numbered_then 0 (held_by old).tokens records more count one.numbered goes.numbered)
-              (subst (λ (p : List ℕ). kept (journal_of new) (first_block p one.start ∷ one.blocks)) (sym goes.stays.0) (goes.keeps (first_block (preface_of old) one.start ∷ one.blocks) one.is_kept)),
+              (subst (λ (p : Preface). kept (journal_of new) (first_block p one.start ∷ one.blocks)) (sym goes.stays.0) (goes.keeps (first_block (preface_of old) one.start ∷ one.blocks) one.is_kept)),
         );
   }
 
@@ -231,7 +231,7 @@ module _ {H J : Type 0} (answers : H → RequestView → Response → H → Type
       let mid = committed_run first one.start one.blocks (held_by old) one.since in
       let y = moved first one.start (with_batch one.blocks batch) (committed (held_by old)) (held_by new) held mid.0 in
       is_run first records new one.start (with_batch one.blocks batch) (y.0, y.1 ∙ mid.1 ∙ one.are) one.numbered
-      (subst (λ (p : List ℕ). kept (journal_of new) (first_block p one.start ∷ with_batch one.blocks batch)) (sym stays.0)
+      (subst (λ (p : Preface). kept (journal_of new) (first_block p one.start ∷ with_batch one.blocks batch)) (sym stays.0)
       (subst (kept (journal_of new)) (first_stays (first_block (preface_of old) one.start) one.blocks batch) is_kept))
 
   pub commits_runs : (old new : Kept H J) → Commits is_clean kept old new → RunGoesOn answers saved is_saveable is_clean kept old new
@@ -252,7 +252,7 @@ module _ {H J : Type 0} (answers : H → RequestView → Response → H → Type
       let mid = saved_run first one.start one.blocks (held_by old) (can refl) one.since in
       let y = moved first start [] (committed (held_by old)) (held_by new) held mid.0 in
       is_run first records new start [] (y.0, y.1 ∙ mid.1 ∙ one.are) one.numbered
-      (subst (λ (p : List ℕ). kept (journal_of new) (first_block p start ∷ [])) (sym stays.0) is_kept)
+      (subst (λ (p : Preface). kept (journal_of new) (first_block p start ∷ [])) (sym stays.0) is_kept)
 
   pub saves_runs : (old new : Kept H J) → Saves saved is_saveable is_clean kept old new → RunGoesOn answers saved is_saveable is_clean kept old new
   saves_runs old new saves = record {
@@ -292,7 +292,7 @@ module _ {H J : Type 0} (answers : H → RequestView → Response → H → Type
   no_more_runs old new (inl stays) clean first records one =
       let y = moved first one.start one.blocks (held_by old) (held_by new) stays.held one.since in
       is_run first records new one.start one.blocks (y.0, y.1 ∙ one.are) one.numbered
-      (subst (λ (p : List ℕ). kept (journal_of new) (first_block p one.start ∷ one.blocks)) (sym stays.stays.0) (stays.keeps (first_block (preface_of old) one.start ∷ one.blocks) one.is_kept))
+      (subst (λ (p : Preface). kept (journal_of new) (first_block p one.start ∷ one.blocks)) (sym stays.stays.0) (stays.keeps (first_block (preface_of old) one.start ∷ one.blocks) one.is_kept))
   no_more_runs old new (inr saves) clean first records one =
       saved_is old new first records one saves.held saves.stays saves.is_made saves.saveable (saves.keeps clean (first_block (preface_of old) one.start ∷ one.blocks) one.is_kept)
 
@@ -334,7 +334,7 @@ module _ {H J : Type 0} (answers : H → RequestView → Response → H → Type
       let x = regrouped answers saved is_saveable (λ _. C) kept first start blocks now (held_by old) same since in
       let y = moved answers saved is_saveable (λ _. C) kept first start now (held_by old) (held_by new) held x.0 in
       is_run answers saved is_saveable (λ _. C) kept first since.all.records new start now (y.0, y.1 ∙ x.1) numbered
-      (subst (λ (p : List ℕ). kept (journal_of new) (first_block p start ∷ now)) (sym preface) is_kept)
+      (subst (λ (p : Preface). kept (journal_of new) (first_block p start ∷ now)) (sym preface) is_kept)
 
 -- ---- a server that starts over what is left
 

@@ -4,6 +4,7 @@ ghost use Rattle.dav_http.specs.Saved.{IsSaveable, Loads, saved_bytes};
 ghost use Rattle.std.specs.Bool.{Decides};
 ghost use Rattle.std.specs.Option.{option_copied};
 ghost use Rattle.http_server.specs.Response.{IsBlank};
+ghost use Rattle.dav_engine.specs.Reply.{Reply as ReplyValue};
 ghost use Rattle.dav_http.specs.Leaves.{Leaves};
 ghost use Rattle.dav_http.specs.Steps.{IsStepFor};
 ghost use Rattle.dav_kept.specs.declared.handler.Effect.TheVariants.{Left};
@@ -272,7 +273,7 @@ impl Machine {
     fn ask(&mut self, head: &[u8], body: Bytes, caller: &Caller<'_>) -> Result<Reply, HttpError>
         ensures step { IfOk result (λ reply.
             IsStepFor head.now body caller.now self.old reply self.new) }
-        ensures left { IfOk result (λ reply. Leaves head.now reply.status
+        ensures left { IfOk result (λ reply. Leaves head.now reply
             → self.new ≡ self.old) }
     {
         self.see_told()?;
@@ -287,7 +288,7 @@ impl Machine {
     fn run(&mut self, request: &Request<'_>) -> Result<Reply, HttpError>
         ensures step { IfOk result (λ reply. IsStepFor request.now.head request.now.body
             (caller_of request.now) self.old reply self.new) }
-        ensures left { IfOk result (λ reply. Leaves request.now.head reply.status
+        ensures left { IfOk result (λ reply. Leaves request.now.head reply
             → self.new ≡ self.old) }
     {
         let caller = caller_of(request);
@@ -299,7 +300,7 @@ impl Machine {
     fn reply_to(&mut self, request: &Request<'_>) -> Result<Reply, HandleError>
         ensures step { IfOk result (λ reply. IsStepFor request.now.head request.now.body
             (caller_of request.now) self.old reply self.new) }
-        ensures left { IfOk result (λ reply. Leaves request.now.head reply.status
+        ensures left { IfOk result (λ reply. Leaves request.now.head reply
             → self.new ≡ self.old) }
     {
         match self.run(request) {
@@ -339,9 +340,9 @@ impl Machine {
 
 // A reply to a request with this head that is known to leave the server.
 fn left_only(head: &[u8], reply: Reply) -> Result<Reply, HandleError>
-    ensures { OnOk result (Leaves head.now reply.status) }
+    ensures { OnOk result (Leaves head.now reply) }
 {
-    if leaves(head, reply.status.as_u16()) {
+    if leaves(head, &reply) {
         Ok(reply)
     } else {
         Err(HandleError::Malformed)
@@ -403,11 +404,12 @@ fn barred_status(user: Option<&str>) -> StatusCode
     }
 }
 
-// What an answer with this status to a request with this head did to the state.
-fn effect_of(head: &Head<'_>, status: u16) -> Effect
-    ensures { (bytes : List ℕ) → IsHead bytes head.now → result ≡ Left → Leaves bytes status }
+// What a request with this head, and which has this reply, did to the state.
+fn effect_of(head: &Head<'_>, reply: &Reply) -> Effect
+    ensures { (bytes : List ℕ) → IsHead bytes head.now → result ≡ Left
+        → Leaves bytes reply.now }
 {
-    if head.leaves(status) {
+    if head.leaves(reply) {
         Effect::Left
     } else {
         Effect::Changed
@@ -511,13 +513,13 @@ impl Machine {
     ) -> Result<Effect, HandleError>
         requires { IsBlank response.old }
         ensures { IfOk result (λ effect. IsSentFor self.now request.now reply response.new
-            × (effect ≡ Left → Leaves request.now.head reply.status)) }
+            × (effect ≡ Left → Leaves request.now.head reply)) }
     {
         let Some(head) = Head::read(request.head) else {
             send(self.alloc, reply, false, response)?;
             return Ok(Effect::Left);
         };
-        let effect = effect_of(&head, reply.status.as_u16());
+        let effect = effect_of(&head, &reply);
         let told = self.reply_told(request, reply)?;
         let store = self.store_for(request.head)?;
         let body = request.body.as_slice();
@@ -664,7 +666,7 @@ impl Machine {
         request: &Request<'_>,
         listing: Listing,
     ) -> Result<(Reply, Option<Listing>), HandleError>
-        requires { (status : ℕ) → Leaves request.now.head status }
+        requires { (reply : ReplyValue) → Leaves request.now.head reply }
         ensures step { IfOk result (λ told. IsStepInParts opened taken listing
             request.now.head request.now.body (caller_of request.now)
             self.old told.0 told.1 self.new) }

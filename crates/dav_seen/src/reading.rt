@@ -75,7 +75,7 @@ fn ask(
     ensures same { OnOk result (handler.new.server ≡ handler.old.server) }
 {
     let reply = handler.handle(alloc, head, body, caller)?;
-    if !leaves(head, reply.status.as_u16()) {
+    if !leaves(head, &reply) {
         return Err(LookError::Changed);
     }
     Ok(reply)

@@ -1,11 +1,11 @@
 -- What requests leave as it was: those that read, those that only create, those that are refused, and those that end in an error
 -- (RFC 9110, sections 9.2.1, 13.1.2 and 13.2.1; RFC 4918, sections 7 and 9.1).
-use Rattle.std.specs.Prelude.{◌≡◌, ◌≢◌, ◌≤◌, ◌⊎◌, ◌==◌, ◌||◌, ℕ, Bool, true, false, not, All, Some, None, Ok, Err}
+use Rattle.std.specs.Prelude.{◌≡◌, ◌≢◌, ◌≤◌, ◌⊎◌, ◌==◌, ◌||◌, ℕ, Bool, true, false, not, [], All, Some, None, Ok, Err}
 use Rattle.dav_core.specs.declared.errors.DavError.{DavError}
 use Rattle.dav_core.specs.declared.errors.DavError.TheVariants as dav
 use Rattle.dav_core.specs.declared.errors.FsError.{FsError}
 use Rattle.dav_core.specs.declared.method.DavMethod.{DavMethod}
-use Rattle.dav_core.specs.declared.method.DavMethod.TheVariants.{Put, Patch, Copy, Move, Delete, Lock as LockMethod}
+use Rattle.dav_core.specs.declared.method.DavMethod.TheVariants.{Put, Patch, Lock as LockMethod}
 use Rattle.dav_core.specs.Asking.{StoreState, Asks}
 use Rattle.dav_core.specs.Path.{PathText, names}
 use Rattle.dav_core.specs.World.{Node, node_at, IsWorld, last_moment}
@@ -54,35 +54,34 @@ ErrorsLeave =
     → (new.world ≡ old.world)
     × ((IsLockRequest x → HandsInUnused x ls ⊎ (¬ IsFileError x e) ⊎ (¬ RanRefused opens_file plan old ls (Err e) new ms)) → ms ≡ ls)
 
--- ---- by its method and status
+-- ---- by its method and reply
 
--- Whether the status is one of those with which nothing was done of a request that may be carried out in part: 400, 412, 415 and 423.
-abbrev pub is_early_status : ℕ → Bool
-is_early_status status = (status == 400) || (status == 412) || (status == 415) || (status == 423)
+-- The reply is that to an error which ended the request (RFC 9110, sections 15.5 and 15.6): it has a header, which says that no bytes follow
+-- (`error_reply`). A DELETE, COPY or MOVE that was carried out in part, and reports its own path alone, is answered with a status and
+-- nothing else (`status_reply`; RFC 4918, section 13).
+abbrev pub IsErrorReply : Reply → Type 0
+IsErrorReply reply = (400 ≤ reply.status) × (reply.headers ≢ [])
 
--- Whether an error of this method with this status may come after something was changed. A PUT or PATCH ends in 404, 413 or 500 where the
--- store refuses a call on the file that it opened; a DELETE, COPY or MOVE may have been carried out in part, and a LOCK may have taken a
--- lock back (RFC 4918, sections 9.6.1, 9.8.5, 9.9.4 and 9.10.4).
+-- Whether an error that ends this method with this status may come after something was changed. A PUT or PATCH ends in 404, 413 or 500 where
+-- the store refuses a call on the file that it opened. A LOCK may have taken a lock back, but with 400, 415 and 423 (RFC 4918, section
+-- 9.10.4).
 abbrev pub may_come_late : DavMethod → ℕ → Bool
 may_come_late Put status = (status == 404) || (status == 413) || (status == 500)
 may_come_late Patch status = (status == 404) || (status == 413) || (status == 500)
-may_come_late Delete status = not (is_early_status status)
-may_come_late Copy status = not (is_early_status status)
-may_come_late Move status = not (is_early_status status)
-may_come_late LockMethod status = not (is_early_status status) || (status == 412)
+may_come_late LockMethod status = not ((status == 400) || (status == 415) || (status == 423))
 may_come_late m status = false
 
--- The status is an error (RFC 9110, sections 15.5 and 15.6), and none that may come after this method changed something.
-abbrev pub IsEarlyError : DavMethod → ℕ → Type 0
-IsEarlyError m status = (400 ≤ status) × (may_come_late m status ≡ false)
+-- The reply is that to an error, and to none that may come after this method changed something.
+abbrev pub IsEarlyError : DavMethod → Reply → Type 0
+IsEarlyError m reply = IsErrorReply reply × (may_come_late m reply.status ≡ false)
 
--- A request with this method that is answered with such an error leaves the world and the list of locks as they were, in a store of which
+-- A request with this method that is answered so leaves the world and the list of locks as they were, in a store of which
 -- no refusal is left to come, and that doesn't run out of memory (RFC 9110, sections 15.5 and 15.6).
 abbrev pub EarlyErrorsLeave : Type 0
 EarlyErrorsLeave =
     (s : Settings) (x : Exchange) (m : DavMethod) (old new : StoreState) (ls ms : Locks) (reply : Reply)
     → IsWorld old.world → x.moment ≤ last_moment → All (λ e. e ≡ None) old.refusals → new.short ≡ false
-    → HasMethod m x → IsEarlyError m reply.status → Steps s x old ls reply new ms → (new.world ≡ old.world) × (ms ≡ ls)
+    → HasMethod m x → IsEarlyError m reply → Steps s x old ls reply new ms → (new.world ≡ old.world) × (ms ≡ ls)
 
 -- ---- of one request
 

@@ -184,9 +184,9 @@ pub fn errors_leave_all()
     ensures { ErrorsLeave }
 {}
 
-/// A request that is answered with an error leaves the world and the list of locks, in a world of which no call is refused but by its own rules,
-/// unless its method with this status may come after a change (`may_come_late`): of a PUT or PATCH 404, 413 and 500; of a DELETE, COPY or MOVE all but
-/// 400, 412, 415 and 423; of a LOCK all but 400, 415 and 423 (RFC 9110, section 15; RFC 4918, sections 9.6.1 to 9.10.4).
+/// A request whose reply is that to an error leaves the world and the list of locks, in a world of which no call is refused but by its own
+/// rules, unless its method with this status may come after a change (`may_come_late`): of a PUT or PATCH 404, 413 and 500; of a LOCK all but
+/// 400, 415 and 423. What a DELETE, COPY or MOVE did in part is told by another reply (RFC 9110, section 15; RFC 4918, section 13).
 #[tactic(auto, using(crate::proofs::EarlyErrors::early_errors_leave))]
 pub fn early_errors_leave_all()
     ensures { EarlyErrorsLeave }

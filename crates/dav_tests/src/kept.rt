@@ -15,6 +15,7 @@ use std::test::Fail;
 mod following;
 mod records;
 mod room;
+mod zeros;
 
 use records::{bytes_in, word_at};
 
@@ -23,7 +24,7 @@ use records::{bytes_in, word_at};
 /// before: `+x` changes the state, `*x` too and has a token, `-x` leaves it, and with `?` in front it
 /// is to be answered as one that only reads. With `restart` it ends and starts again; with `204` it
 /// answers changes so from then on; with `due` it makes a snapshot where the journal is long enough. A
-/// state with a `!` can't be saved.
+/// state with a `!` can't be saved. A request with an `L` has a long body.
 const LIVES: &str = "
 restart -> . 0 0 0
 +a commit restart -> a 0 1 0
@@ -48,9 +49,9 @@ snap restart -> . 0 0 1
 +a *b snap restart -> ab 1 2 1
 +a *b snap *c -d commit restart -> abc 2 3 1
 +a snap +b restart -> a 0 1 1
-+a commit due -> a 0 1 0
-+a commit +b commit due restart due -> ab 0 2 1
-+a commit +b commit restart due due -> ab 0 2 1
++aL commit due -> aL 0 1 0
++aL commit +bL commit due restart due -> aLbL 0 2 1
++aL commit +bL commit restart due due -> aLbL 0 2 1
 +a commit snap snap restart snap +b commit snap restart +c commit restart -> abc 0 3 4
 +a ?-b snap ?-c mark snap mark restart -> a 0 1 2
 +a snap ?+b -> Changed
@@ -58,7 +59,7 @@ snap restart -> . 0 0 1
 +a snap +b commit 204 restart -> Damaged
 +a snap /b restart -> OtherPreface
 +a +! snap restart -> a! 0 2 0
-+a commit +! commit due due restart due -> a! 0 2 0
++aL commit +!L commit due due restart due -> aL!L 0 2 0
 +a snap +! snap restart -> a! 0 2 1
 ";
 
@@ -204,9 +205,15 @@ fn start(
     Ok(kept)
 }
 
-// The body of the request of a word.
-fn body_of(word: &str) -> &'static [u8] {
-    if word.starts_with('-') { b"" } else { b"body" }
+// The body of the request of a word: two long ones are longer than a first block with its zeros.
+fn body_of(alloc: Global, word: &str) -> Result<Bytes, AllocError> {
+    if word.starts_with('-') {
+        return Ok(Bytes::new());
+    }
+    let mut body = Vec::new(alloc);
+    let len = if word.contains('L') { 5_000 } else { 4 };
+    body.resize(len, b'b')?;
+    Bytes::copy_from_slice(alloc, &body)
 }
 
 // The token of the request of a word.
@@ -226,7 +233,7 @@ pub fn ask<J: Keeps + Drop>(
 ) -> Result<Option<Effect>, KeptError> {
     let reads = word.starts_with('?');
     let word = word.trim_start_matches('?');
-    let body = Bytes::from_static(body_of(word));
+    let body = body_of(alloc, word)?;
     let token = token_of(word);
     let head = word.trim_start_matches(['+', '-', '*']);
     let request = Request {

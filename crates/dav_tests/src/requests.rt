@@ -1,6 +1,7 @@
 //! Requests as rows of text: what is kept of a head, and what a server answers. In a row `^` is
 //! CRLF.
 
+mod left;
 mod listing;
 mod presented;
 mod refused;
@@ -9,7 +10,7 @@ mod uploaded;
 
 use bytes::{Buf, Bytes};
 use dav_engine::Caller;
-use dav_http::{HandleError, Handler, Head, is_sendable_if_any, leaves, send, unlock_head};
+use dav_http::{HandleError, Handler, Head, is_sendable_if_any, send, unlock_head};
 use http_server::Response;
 use std::alloc::{AllocError, Global};
 use std::test::Fail;
@@ -265,60 +266,6 @@ fn sessions_are_answered(rt: HostRuntime) -> Result<(), Fail> {
         }
     }
     assert!(rt; count == 16, "{count} rows");
-    Ok(())
-}
-
-// Methods with a status, and whether a request of it that is answered so is known to leave the
-// server as it was.
-const LEFT: &str = "\
-GET 200 yes
-HEAD 404 yes
-OPTIONS 200 yes
-PROPFIND 207 yes
-POST 501 yes
-get 501 yes
-PUT 423 yes
-PUT 412 yes
-PUT 409 yes
-PUT 403 yes
-PATCH 415 yes
-PATCH 416 yes
-PUT 404 no
-PUT 413 no
-PATCH 500 no
-MKCOL 405 yes
-MKCOL 409 yes
-MKCOL 415 yes
-PROPPATCH 404 yes
-UNLOCK 409 yes
-COPY 412 yes
-MOVE 400 yes
-DELETE 423 yes
-DELETE 403 no
-DELETE 404 no
-COPY 409 no
-MOVE 403 no
-LOCK 423 yes
-LOCK 400 yes
-LOCK 409 no
-LOCK 412 no
-PUT 201 no
-MKCOL 201 no
-PROPPATCH 207 no
-DELETE 204 no
-UNLOCK 204 no
-MOVE 207 no
-";
-
-#[test]
-fn what_is_left_is_known(rt: HostRuntime) -> Result<(), Fail> {
-    for row in LEFT.lines() {
-        let (method, rest) = row.split_once(' ').ok_or(row)?;
-        let (status, wanted) = rest.split_once(' ').ok_or(row)?;
-        let head = format!(in rt.alloc(); "{method} / HTTP/1.1\r\n\r\n")?;
-        let found = leaves(head.as_bytes(), status.parse::<u16>()?);
-        assert!(rt; found == (wanted == "yes"), "{row}");
-    }
     Ok(())
 }
 

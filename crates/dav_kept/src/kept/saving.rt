@@ -4,7 +4,7 @@ ghost use Rattle.std.specs.List.{concat};
 ghost use Rattle.http_server.specs.declared.response.Response.{Response};
 ghost use Rattle.http_server.specs.Response.{IsBlank};
 ghost use Rattle.dav_kept.specs.Records.{IsRecord, record_bytes, token_count};
-ghost use Rattle.dav_kept.specs.Kept.{Begins, IsAnswerOf, RecordsFollow, IsRunOf, PlaysRecords, Snapshot, StaysAsKept, StaysInJournal, after, committed, first_block, first_day, held_by, is_new, journal_of, preface_of, snapshot_bytes, snapshot_of, answer_step, base_of, with_batch, with_count, with_first, with_snapshot};
+ghost use Rattle.dav_kept.specs.Kept.{Begins, IsAnswerOf, RecordsFollow, IsRunOf, PlaysRecords, Snapshot, StaysAsKept, StaysInJournal, after, committed, filled, first_block, first_day, held_by, is_new, journal_of, preface_of, snapshot_bytes, snapshot_of, answer_step, base_of, with_batch, with_count, with_first, with_snapshot};
 ghost use Rattle.dav_kept.specs.declared.handler.Effect.TheVariants.{Changed};
 
 use crate::error::KeptError;
@@ -14,12 +14,34 @@ use crate::kept::Kept;
 use crate::record::put;
 use std::alloc::{AllocError, Global};
 
-// The first block of a journal without a snapshot.
-pub fn plain_block(alloc: Global, preface: &[u8]) -> Result<Vec<u8>, KeptError>
-    ensures { IfOk result (λ v. v.items ≡ first_block preface.now None) }
+/// With zeros the preface has so many bytes where no snapshot follows it.
+pub const WITHOUT_SNAPSHOT: usize = 8192;
+/// With zeros the preface has so many bytes where a snapshot follows it.
+pub const BEFORE_SNAPSHOT: usize = 4096;
+
+// A preface as it stands in a first block.
+pub fn filled(
+    alloc: Global,
+    preface: &[u8],
+    has_zeros: bool,
+    count: usize,
+) -> Result<Vec<u8>, AllocError>
+    ensures { IfOk result (λ v. v.items ≡ filled count (preface.now, has_zeros)) }
 {
+    let mut filled = Vec::from_slice(alloc, preface)?;
+    if has_zeros && filled.len() < count {
+        filled.resize(count, 0)?;
+    }
+    Ok(filled)
+}
+
+// The first block of a journal without a snapshot.
+pub fn plain_block(alloc: Global, preface: &[u8], has_zeros: bool) -> Result<Vec<u8>, KeptError>
+    ensures { IfOk result (λ v. v.items ≡ first_block (preface.now, has_zeros) None) }
+{
+    let filled = filled(alloc, preface, has_zeros, WITHOUT_SNAPSHOT)?;
     let mut block = Vec::new(alloc);
-    put(&mut block, preface)?;
+    put(&mut block, &filled)?;
     Ok(block)
 }
 
@@ -97,7 +119,9 @@ impl<H: Handles + Drop, J: Keeps + Drop> Kept<H, J> {
             (preface_of self.now) (Some (snapshot_of H.saved (held_by self.now))))
             × H.is_saveable (held_by self.now).state)) }
     {
-        let mut block = plain_block(self.alloc, &self.preface)?;
+        let preface = filled(self.alloc, &self.preface, self.has_zeros, BEFORE_SNAPSHOT)?;
+        let mut block = Vec::new(self.alloc);
+        put(&mut block, &preface)?;
         block.extend_from_slice(&self.tokens.to_be_bytes())?;
         block.extend_from_slice(&self.latest.to_be_bytes())?;
         if self.handler.save(&mut block)? {

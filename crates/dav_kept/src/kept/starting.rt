@@ -4,13 +4,14 @@ ghost use Rattle.std.specs.List.{concat};
 ghost use Rattle.http_server.specs.declared.response.Response.{Response};
 ghost use Rattle.http_server.specs.Response.{IsBlank};
 ghost use Rattle.dav_kept.specs.Records.{IsRecord, record_bytes, token_count};
-ghost use Rattle.dav_kept.specs.Kept.{Begins, IsAnswerOf, RecordsFollow, IsRunOf, PlaysRecords, Snapshot, StaysAsKept, StaysInJournal, after, committed, first_block, first_day, held_by, is_new, journal_of, preface_of, snapshot_bytes, snapshot_of, answer_step, base_of, with_batch, with_count, with_first, with_snapshot};
+ghost use Rattle.dav_kept.specs.Kept.{Begins, IsAnswerOf, RecordsFollow, IsRunOf, PlaysRecords, Snapshot, StaysAsKept, StaysInJournal, after, committed, filled, first_block, first_day, held_by, is_new, journal_of, preface_of, snapshot_bytes, snapshot_of, answer_step, base_of, with_batch, with_count, with_first, with_snapshot};
 ghost use Rattle.dav_kept.specs.declared.handler.Effect.TheVariants.{Changed};
 
 use crate::error::{KeptError, refusal};
 use crate::handler::Handles;
 use crate::journal::Keeps;
 use crate::kept::Kept;
+use crate::kept::saving::{BEFORE_SNAPSHOT, WITHOUT_SNAPSHOT, filled};
 use crate::record::{Record, number_in, taken};
 use bytes::Bytes;
 use http_server::Response;
@@ -26,11 +27,13 @@ impl<H: Handles + Drop, J: Keeps + Drop> Kept<H, J> {
             (held_by self.new)
             × (J.is_clean (journal_of self.new) → J.has_so_far (journal_of self.old) []
             → J.has_read (journal_of self.new)
-            (with_first (is_new self.new) (first_block (preface_of self.old) start) blocks))
+            (with_first (is_new self.new) (first_block (preface_of self.new) start) blocks))
             × (is_new self.new ≡ true → (blocks ≡ []) × (start ≡ None))) }
         ensures batch { OnOk result ((held_by self.new).batch ≡ []) }
         ensures clean { J.is_clean (journal_of self.new) → J.is_clean (journal_of self.old) }
-        ensures preface { preface_of self.new ≡ preface_of self.old }
+        ensures preface { (preface_of self.new).0 ≡ (preface_of self.old).0 }
+        ensures zeros { OnOk result
+            (is_new self.new ≡ true → preface_of self.new ≡ preface_of self.old) }
     {
         let place = self.journal.place();
         let Some(block) = self.next_block()? else {
@@ -46,28 +49,48 @@ impl<H: Handles + Drop, J: Keeps + Drop> Kept<H, J> {
     fn start(&mut self, block: &[u8], place: usize) -> Result<(), KeptError>
         requires { held_by self.old ≡ first_day (held_by self.old).state }
         ensures begins { OnOk result ((start : Option Snapshot)
-            × (block.now ≡ first_block (preface_of self.old) start)
+            × (block.now ≡ first_block (preface_of self.new) start)
             × Begins H.loads (held_by self.old).state start (held_by self.new)) }
         ensures batch { OnOk result ((held_by self.new).batch ≡ []) }
-        ensures stays { StaysInJournal self.old self.new }
+        ensures preface { (preface_of self.new).0 ≡ (preface_of self.old).0 }
+        ensures novelty { is_new self.new ≡ is_new self.old }
         ensures journal { journal_of self.new ≡ journal_of self.old }
     {
         let Some((preface, rest)) = taken(block) else {
             return Err(KeptError::Damaged(place));
         };
-        if preface != self.preface.as_slice() {
-            return Err(KeptError::OtherPreface);
-        }
         if rest.is_empty() {
+            return self.see_preface(preface, WITHOUT_SNAPSHOT);
+        }
+        self.see_preface(preface, BEFORE_SNAPSHOT)?;
+        self.load(rest, place)
+    }
+
+    // Sees that a first block has the preface, up to so many bytes where zeros stand behind it, and
+    // notes whether they do.
+    fn see_preface(&mut self, found: &[u8], count: usize) -> Result<(), KeptError>
+        ensures found { OnOk result (found.now ≡ filled count (preface_of self.new)) }
+        ensures preface { (preface_of self.new).0 ≡ (preface_of self.old).0 }
+        ensures held { held_by self.new ≡ held_by self.old }
+        ensures novelty { is_new self.new ≡ is_new self.old }
+        ensures journal { journal_of self.new ≡ journal_of self.old }
+    {
+        let with_zeros = filled(self.alloc, &self.preface, true, count)?;
+        if found == with_zeros.as_slice() {
+            self.has_zeros = true;
             return Ok(());
         }
-        self.load(rest, place)
+        if found != self.preface.as_slice() {
+            return Err(KeptError::OtherPreface);
+        }
+        self.has_zeros = false;
+        Ok(())
     }
 
     // Loads the snapshot of the first block, at this place.
     fn load(&mut self, bytes: &[u8], place: usize) -> Result<(), KeptError>
         requires { held_by self.old ≡ first_day (held_by self.old).state }
-        ensures loaded { OnOk result ((start : Snapshot) × (bytes.now ≡ snapshot_bytes (Some start))
+        ensures loaded { OnOk result ((start : Snapshot) × (bytes.now ≡ snapshot_bytes start)
             × Begins H.loads (held_by self.old).state (Some start) (held_by self.new)) }
         ensures stays { StaysAsKept self.old self.new }
         ensures journal { journal_of self.new ≡ journal_of self.old }

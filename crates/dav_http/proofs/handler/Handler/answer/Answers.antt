@@ -7,7 +7,7 @@ use Rattle.dav_server.specs.Server.{HandlerView, Server}
 use Rattle.dav_store.specs.Store.{Store}
 use Rattle.dav_http.specs.Leaves.{Leaves}
 use Rattle.dav_http.specs.Steps.{AnsweredInParts}
-use Rattle.dav_http.proofs.HandingLemmas.{same_status}
+use Rattle.dav_http.proofs.HandingLemmas.{told_leaves}
 use Rattle.dav_http.proofs.LeavesSteps.{left_as_it_was}
 use Rattle.dav_http.proofs.SentSteps.{server_answers, server_stops}
 use Rattle.dav_http.proofs.handler.Handler.answer.Goals.{in-Ok+else-was_short-2, in-Err}
@@ -42,14 +42,14 @@ returns-clause-parts g c =
 
 pub returns-clause-left : goal.returns-clause-left
 returns-clause-left g c =
-    let Left : Reply × Option g.row.T.Denot → Type 0 = λ told. Leaves c.args.exchange.now.head told.0.status → c.handle_to.new.self.server ≡ c.args.self.now.server in
+    let Left : Reply × Option g.row.T.Denot → Type 0 = λ told. Leaves c.args.exchange.now.head told.0 → c.handle_to.new.self.server ≡ c.args.self.now.server in
     elim c.match-handle_to.branch [
       | in-Ok+else-was_short-2 w ↦
           subst (λ r. IfOk r Left) (sym w.result-is)
           (λ left.
           left_as_it_was c.self.inside.handler.server c.handle_to.new.self.server c.args.exchange.now w.in-Ok.ensures.ok.whole c.fs.result.now w.fs-in-Ok.result.now w.in-Ok.ensures.same w.in-Ok.ensures.ok.answers
           w.in-Ok.ensures.reading c.self.invariant.world c.requires.moment c.fs.ensures.state w.fs-in-Ok.ensures.state (sym c.if-was_short.ensures) (sym w.if-was_short-2.ensures)
-          (subst (λ n. Leaves c.args.exchange.now.head n) (same_status g.T.Takes.opened g.T.Takes.taken c.args.to w.in-Ok.ensures.ok.whole w.in-Ok.told.0 w.in-Ok.told.1 w.in-Ok.ensures.ok.handed) left)
+          (told_leaves g.T.Takes.opened g.T.Takes.taken c.args.to w.in-Ok.ensures.ok.whole w.in-Ok.told.0 w.in-Ok.told.1 w.in-Ok.ensures.ok.handed c.args.exchange.now.head left)
           ∙ ap (λ (h : HandlerView Store (List Lock)). h.server) c.self.view_is)
       | in-Err w ↦ subst (λ r. IfOk r Left) (sym w.result-is) tt
     ]

@@ -1,9 +1,9 @@
-use Rattle.std.proofs.Common.{None, Some, ap, subst, sym, ◌∙◌}
+use Rattle.std.proofs.Common.{None, Some, subst, sym}
 use Rattle.dav_engine.specs.Reply.{Reply}
 use Rattle.dav_engine.specs.Taking.{grown_tree, opened_tree}
 use Rattle.dav_http.specs.Leaves.{Leaves}
 use Rattle.dav_http.specs.Steps.{IsStepFor}
-use Rattle.dav_http.proofs.HandingLemmas.{same_status}
+use Rattle.dav_http.proofs.HandingLemmas.{whole_leaves}
 use Rattle.dav_http.proofs.handler.Handler.handle.Goals as goal
 
 pub returns-in-Ok-clause-step : goal.returns-in-Ok-clause-step
@@ -14,4 +14,4 @@ returns-in-Ok-clause-step c =
 pub returns-in-Ok-clause-left : goal.returns-in-Ok-clause-left
 returns-in-Ok-clause-left c leaves =
     let parts = c.in-Ok.ensures.step in
-    c.in-Ok.ensures.left (subst (λ n. Leaves c.args.head.now n) (ap (λ (r : Reply). r.status) (c.gathered.ensures parts.whole parts.handed) ∙ sym (same_status opened_tree grown_tree None parts.whole _ _ parts.handed)) leaves)
+    c.in-Ok.ensures.left (whole_leaves opened_tree grown_tree None parts.whole _ _ parts.handed c.args.head.now (subst (Leaves c.args.head.now) (c.gathered.ensures parts.whole parts.handed) leaves))

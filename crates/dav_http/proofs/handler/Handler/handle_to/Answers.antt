@@ -26,5 +26,5 @@ returns-clause-step g c =
 pub returns-clause-left : goal.returns-clause-left
 returns-clause-left g c =
     IfOk-weaker c.answer.result _ _
-    (λ told left leaves. left (subst (λ (h : List ℕ). Leaves h told.0.status) (sym c.in_ok-exchange.ensures.asked.head_is) leaves))
+    (λ told left leaves. left (subst (λ (h : List ℕ). Leaves h told.0) (sym c.in_ok-exchange.ensures.asked.head_is) leaves))
     c.answer.ensures.left

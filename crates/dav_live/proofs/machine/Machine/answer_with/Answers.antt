@@ -1,9 +1,9 @@
-use Rattle.std.proofs.Common.{List, ap, subst, sym, option_map, ℕ, ◌∙◌}
+use Rattle.std.proofs.Common.{List, subst, sym, option_map, ℕ}
 use Rattle.dav_core.specs.Path.{names}
 use Rattle.dav_engine.specs.Reply.{Reply}
 use Rattle.dav_kept.specs.Records.{RequestView}
 use Rattle.dav_server.specs.Head.{IsHead, Request}
-use Rattle.dav_http.specs.Leaves.{Leaves, no_head}
+use Rattle.dav_http.specs.Leaves.{no_head}
 use Rattle.dav_server.specs.Server.{Server}
 use Rattle.dav_http.specs.Presented.{IsShown}
 use Rattle.dav_http.specs.Room.{room_in, room_of}
@@ -26,7 +26,5 @@ returns c =
           (subst (λ (q : RequestView). IsShown c.in-Some.head q.body q.moment (room_in store) told c.present.new.response) c.request.view_is
           (subst (λ (b : List ℕ). IsShown c.in-Some.head b c.request.inside.moment (room_in store) told c.present.new.response) c.as_slice-body.ensures
           c.in_ok-present.ensures))),
-      λ left.
-          subst (λ (status : ℕ). Leaves c.args.request.now.head status) (c.as_u16.ensures.value ∙ ap (λ (r : Reply). r.status) c.reply.view_is)
-          (c.effect_of-effect.ensures c.args.request.now.head head left),
+      λ left. c.effect_of-effect.ensures c.args.request.now.head head left,
     )
